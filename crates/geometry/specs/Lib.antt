@@ -1,0 +1,4 @@
+pub mod Leaves
+pub mod Layers
+pub mod Pile
+pub mod Stands

@@ -1,0 +1,4 @@
+pub mod Tables
+pub mod Ways
+pub mod Distance
+pub mod Toward

@@ -1,0 +1,3 @@
+//! Rays that march to first contact, knowing only what a solid means.
+pub mod pixel;
+pub mod view;
