@@ -528,6 +528,11 @@ fn damage_draft(random: &mut Random, draft: &mut Draft) {
             let total = if random.percent(50) { most + random.range(0, 2) } else { random.range(most, most + 32_767) };
             let chain = shifts(random, total);
             draft.scene.extend(chain);
+            // With 15 too.
+            if random.percent(20) {
+                make_inexact(random, draft);
+                draft.job[GUARD] = 1;
+            }
         }
         // 12 at the end.
         16 => {
@@ -545,6 +550,10 @@ fn damage_draft(random: &mut Random, draft: &mut Draft) {
                 make_inexact(random, draft);
             }
             draft.job[GUARD] = random.pick(&[1, 1, 7, 1_023]);
+            // With 14 too.
+            if random.percent(15) {
+                draft.heights.push(0);
+            }
         }
         // 13.
         19 => {
@@ -603,7 +612,7 @@ fn damage_words(random: &mut Random, parts: &mut [Vec<u32>; 3]) {
             let count = *start & 0x0FFF_FFFF;
             let other = match random.below(8) {
                 0 | 1 => 0,
-                2 => 1_793,
+                2 => random.pick(&[1_792, 1_793, 1_793]),
                 3 => random.pick(&[0x0FFF_FFFF, 0x0800_0001, 0x0001_0000 + count]),
                 4 => random.range(1_793, 5_000) as u32,
                 5 => random.range(1, 1_792) as u32,

@@ -22,15 +22,19 @@ fn measure(name: &str, input: &[u8]) {
     assert_eq!(image[3] >> 4, 10, "{name} is refused");
     let hits = image[8..].chunks_exact(4).filter(|word| word[3] >> 4 == 11).count();
     let probes: u64 = image[8..].chunks_exact(4).map(|word| u64::from(u16::from_le_bytes([word[0], word[1]]))).sum();
-    let model = time(|| model::render(black_box(input)));
     let read = model::Input::read(input).expect("it is drawn");
-    let walk = time(|| walk::walk(black_box(&read)));
-    let kit = kit::RENDER_INTO.map(|render_into| {
-        let mut output = vec![0; kit::MOST_OUTPUT];
+    let mut output = vec![0; kit::MOST_OUTPUT];
+    if let Some(render_into) = kit::RENDER_INTO {
         let length = render_into(input, &mut output);
         assert!(output[..length] == image, "{name}: the kit and the model differ");
-        time(|| render_into(black_box(input), &mut output))
-    });
+    }
+    let [model, walk, kit] =
+        time([&mut || drop(black_box(model::render(black_box(input)))), &mut || drop(black_box(walk::walk(black_box(&read)))), &mut || {
+            if let Some(render_into) = kit::RENDER_INTO {
+                black_box(render_into(black_box(input), &mut output));
+            }
+        }]);
+    let kit = kit::RENDER_INTO.map(|_| kit);
     let micros = |time: Duration| format!("{:.1}", time.as_secs_f64() * 1e6);
     let ratio = |time: Duration| format!("{:.3}", time.as_secs_f64() / model.as_secs_f64());
     let none = || "-".to_string();
@@ -44,16 +48,18 @@ fn measure(name: &str, input: &[u8]) {
     );
 }
 
-/// The least time of a run, out of as many as go into a third of a second, and three at least unless one alone takes longer.
-fn time<T>(mut run: impl FnMut() -> T) -> Duration {
+/// The least time of each run, out of as many rounds as go into a second, and three at least. The runs take turns, so that a busy machine slows all alike.
+fn time<const N: usize>(mut runs: [&mut dyn FnMut(); N]) -> [Duration; N] {
     let whole = Instant::now();
-    let mut least = Duration::MAX;
-    let mut runs = 0;
-    while runs < 3 && least < Duration::from_millis(500) || runs == 0 || whole.elapsed() < Duration::from_millis(333) {
-        let start = Instant::now();
-        black_box(run());
-        least = least.min(start.elapsed());
-        runs += 1;
+    let mut least = [Duration::MAX; N];
+    let mut rounds = 0;
+    while rounds < 3 || whole.elapsed() < Duration::from_secs(1) {
+        for (run, least) in runs.iter_mut().zip(&mut least) {
+            let start = Instant::now();
+            run();
+            *least = start.elapsed().min(*least);
+        }
+        rounds += 1;
     }
     least
 }
