@@ -1,2 +1,4 @@
 pub mod View
+pub mod Told
+pub mod Checks
 pub mod March
