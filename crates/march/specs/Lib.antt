@@ -2,3 +2,4 @@ pub mod View
 pub mod Told
 pub mod Checks
 pub mod March
+pub mod Rays
