@@ -3,3 +3,8 @@ pub mod Balls
 pub mod Axes
 pub mod Boxes
 pub mod Surfaces
+pub mod Near
+pub mod Kept
+pub mod Piles
+pub mod Asked
+pub mod Shifts
