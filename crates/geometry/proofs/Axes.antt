@@ -46,7 +46,7 @@ beside-between lo hi a e = and-from (leZ lo a) (leZ a hi) (above-le lo a (omega 
 abbrev pub nearest : (lo hi a : ℤ) → ℤ
 nearest lo hi a = (a +ℤ pos (above lo a)) -ℤ pos (above a hi)
 
-module _ (lo hi a : ℤ) (l : lo ≤ℤ hi) where
+module _ (lo hi a : ℤ) (l : leZ lo hi ≡ true) where
   pub nearest-between : between lo hi (nearest lo hi a) ≡ true
   nearest-between =
       let low = rise-is (lo -ℤ a) in
