@@ -19,8 +19,8 @@ use solid::Solid;
 /// The points that lie from `lo` to `hi` on each axis.
 #[derive(Clone, Copy, Debug)]
 pub struct AxisBox {
-    lo: Point,
-    hi: Point,
+    pub lo: Point,
+    pub hi: Point,
     ghost low: { In 16384 lo },
     ghost high: { In 16384 hi },
     ghost upright: { ordered lo hi ≡ true },

@@ -21,8 +21,8 @@ use solid::Solid;
 /// The points whose squared offsets from the centre add to at most the radius squared.
 #[derive(Clone, Copy, Debug)]
 pub struct Ball {
-    centre: Point,
-    radius: u32,
+    pub centre: Point,
+    pub radius: u32,
     ghost near: { In 16384 centre },
     ghost small: { radius ≤ 16383 },
 }
