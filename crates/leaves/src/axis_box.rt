@@ -11,13 +11,12 @@ use super::axis::beside;
 use super::fault::LeafFault;
 use super::fault::check_point;
 use lattice::Point;
-use lattice::PointDebug;
 use solid::Exact;
 use solid::QuestionFault;
 use solid::Solid;
 
 /// The points that lie from `lo` to `hi` on each axis.
-#[derive(Clone, Copy, Debug)]
+#[derive(Clone, Copy)]
 pub struct AxisBox {
     pub lo: Point,
     pub hi: Point,

@@ -17,7 +17,7 @@ use solid::QuestionFault;
 use solid::Solid;
 
 /// The sizes of a surface, which were checked.
-#[derive(Clone, Copy, Debug)]
+#[derive(Clone, Copy)]
 pub struct Sheet {
     pub width: u32,
     pub depth: u32,
