@@ -11,16 +11,15 @@ use super::axis::beside;
 use super::fault::LeafFault;
 use super::fault::check_point;
 use lattice::Point;
-use lattice::PointDebug;
 use solid::Exact;
 use solid::QuestionFault;
 use solid::Solid;
 
 /// The points that lie from `lo` to `hi` on each axis.
-#[derive(Clone, Copy, Debug)]
+#[derive(Clone, Copy)]
 pub struct AxisBox {
-    lo: Point,
-    hi: Point,
+    pub lo: Point,
+    pub hi: Point,
     ghost low: { In 16384 lo },
     ghost high: { In 16384 hi },
     ghost upright: { ordered lo hi ≡ true },

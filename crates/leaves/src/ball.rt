@@ -13,16 +13,15 @@ use super::fault::LeafFault;
 use super::fault::check_point;
 use super::fault::check_range;
 use lattice::Point;
-use lattice::PointDebug;
 use solid::Exact;
 use solid::QuestionFault;
 use solid::Solid;
 
 /// The points whose squared offsets from the centre add to at most the radius squared.
-#[derive(Clone, Copy, Debug)]
+#[derive(Clone, Copy)]
 pub struct Ball {
-    centre: Point,
-    radius: u32,
+    pub centre: Point,
+    pub radius: u32,
     ghost near: { In 16384 centre },
     ghost small: { radius ≤ 16383 },
 }
