@@ -31,11 +31,6 @@ thicken-number = ranged 0 1023
 abbrev pub cap-number : ℤ → Result ℕ LayerFault
 cap-number = ranged 1 2097151
 
--- what is made of an accepted value; a refusal stays as it is
-abbrev pub mapped : {A B : Type 0} → (A → B) → Result A LayerFault → Result B LayerFault
-mapped f (Ok a) = Ok (f a)
-mapped f (Err e) = Err e
-
 -- the parts of a cap
 abbrev pub parts : {A : Type 0} → A → ℕ → A × ℕ
 parts below most = (below, most)
