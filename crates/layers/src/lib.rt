@@ -47,14 +47,18 @@ pub impl Refusal for LayerFault as LayerRefusal {
 }
 
 /// The greatest part that an offset may have, in size.
-const OFFSET_MOST: u32 = 16383;
-/// The least and the greatest distance to thicken by.
+const OFFSET_MOST: u32 = 16_383;
+
+/// The least distance to thicken by.
 const THICKEN_LEAST: u32 = 0;
 
+/// The greatest distance to thicken by.
 const THICKEN_MOST: u32 = 1023;
-/// The least and the greatest bound that a cap may set.
+
+/// The least bound that a cap may set.
 const CAP_LEAST: u32 = 1;
 
+/// The greatest bound that a cap may set.
 const CAP_MOST: u32 = 2_097_151;
 
 /// A call's first number, if it lies in `least..=most`.
