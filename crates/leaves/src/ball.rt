@@ -26,7 +26,14 @@ pub struct Ball {
     ghost small: { radius ≤ 16383 },
 }
 
+const LEAST_RADIUS: i32 = 0;
+
 const MOST_RADIUS: i32 = 16_383;
+
+/// Where a ball's numbers stand among those of its making.
+const CENTRE_PLACE: u32 = 1;
+
+const RADIUS_PLACE: u32 = 4;
 
 impl Ball {
     /// The ball of that centre and radius. The centre's coordinates, numbers 1 to 3, lie in
@@ -35,8 +42,8 @@ impl Ball {
         ensures value { λ r. ⌜ mapped (λ (b : Ball). (b .centre, b .radius)) (λ e. e) r ≡ ball-made centre radius ⌝ }
         ensures smallest { λ _. ⌜ Smallest-stands ⌝ }
     {
-        check_point(centre, 1)?;
-        check_range(radius, 0, MOST_RADIUS, 4)?;
+        check_point(centre, CENTRE_PLACE)?;
+        check_range(radius, LEAST_RADIUS, MOST_RADIUS, RADIUS_PLACE)?;
         Ok(Ball {
             centre,
             radius: radius as u32,
@@ -44,6 +51,8 @@ impl Ball {
     }
 }
 
+/// The square of an offset. Within the reach an offset from a centre is at most 1,064,960, the
+/// reach and 16,384 more, so that three squares and their sum fit.
 fn square(n: u32) -> u64
     requires { ⌜ n ≤ 1064960 ⌝ }
     ensures value { λ r. ⌜ r ≡ n * n ⌝ }

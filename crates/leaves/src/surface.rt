@@ -25,7 +25,9 @@ pub struct Sheet {
     ghost deep: { (1 ≤ depth) × (depth ≤ 64) },
 }
 
-/// The most columns along a side of a sheet.
+/// How many columns a side of a sheet may have.
+const SHORTEST_SIDE: i32 = 1;
+
 const LONGEST_SIDE: i32 = 64;
 
 impl Sheet {
@@ -34,10 +36,10 @@ impl Sheet {
     pub fn check(width: i32, depth: i32, heights: &[i16]) -> Result<Sheet, SurfaceFault>
         ensures { λ r. ⌜ mapped (λ (s : Sheet). (s .width, s .depth)) (λ e. e) r ≡ sheet-made width depth (length (now (heights .entry))) ⌝ }
     {
-        if !lies_between(width, 1, LONGEST_SIDE) {
+        if !lies_between(width, SHORTEST_SIDE, LONGEST_SIDE) {
             return Err(SurfaceFault::Size);
         }
-        if !lies_between(depth, 1, LONGEST_SIDE) {
+        if !lies_between(depth, SHORTEST_SIDE, LONGEST_SIDE) {
             return Err(SurfaceFault::Size);
         }
         let sheet = Sheet {
@@ -69,6 +71,7 @@ fn last(side: u32) -> i32
 /// The height of a column that the caller's heights lack.
 const LOWEST_HEIGHT: i16 = i16::MIN;
 
+/// The height of a column.
 fn height_at(heights: &[i16], column: usize) -> i16
     ensures { λ r. ⌜ r ≡ getD (now (heights .entry)) column lowest ⌝ }
 {
@@ -116,6 +119,7 @@ impl<'a> Surface<'a> {
         }
     }
 
+    /// Is the point a member: on the sheet, and no higher than the column there?
     fn in_column(&self, p: Point) -> bool
         ensures { λ r. ⌜ r ≡ in-column (now (self .entry) .sheet .width) (now (self .entry) .sheet .depth) (now (now (self .entry) .heights)) p ⌝ }
     {
@@ -129,6 +133,9 @@ impl<'a> Surface<'a> {
         p.z <= height_at(self.heights, column) as i32
     }
 }
+
+/// What is no member has at least this clearance.
+const LEAST_STRIDE: u32 = 1;
 
 pub impl<'a> Solid for Surface<'a> as SurfaceSolid {
     ghost body = { λ s. surface (s .sheet .width) (s .sheet .depth) (now (s .heights)) };
@@ -149,6 +156,6 @@ pub impl<'a> Solid for Surface<'a> as SurfaceSolid {
         let x = beside(0, last(self.sheet.width), p.x);
         let y = beside(0, last(self.sheet.depth), p.y);
         let z = above(p.z, self.top as i32);
-        Ok(x.max(y.max(z)).max(1))
+        Ok(x.max(y.max(z)).max(LEAST_STRIDE))
     }
 }
