@@ -1,0 +1,5 @@
+pub mod Told
+pub mod Sweep
+pub mod Log
+pub mod Fair
+pub mod Law
