@@ -1,0 +1,5 @@
+pub mod Near
+pub mod Kept
+pub mod Piles
+pub mod Asked
+pub mod Shifts
