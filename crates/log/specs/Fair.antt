@@ -38,6 +38,7 @@ Refused n p a ps qs = (f : PlateFault) × ((a ≡ refused f) × (plate-told f �
 -- a sweep over the body spent s of its budget: each pixel took steps along its own ray, and where one still marches, the budget is
 -- spent and no later pixel, row by row, was stepped
 pub record Sweeps (v : View) (b : Body) (budget s : ℕ) (ps qs : List Pixel) : Type 0 where
+  pub as-many : length qs ≡ length ps
   pub counts : spent qs ≡ spent ps + s
   pub within : s ≤ budget
   pub walks : (i j : ℕ) → Inside v i j → (k : ℕ) × Went (clear-at v b i j) (v .far) k (pixel-in v ps i j) (pixel-in v qs i j)
@@ -46,6 +47,7 @@ pub record Sweeps (v : View) (b : Body) (budget s : ℕ) (ps qs : List Pixel) : 
 
 -- a touch spent s of its budget on pixel (i, j), and no other changed
 pub record Touches (v : View) (i j : ℕ) (b : Body) (budget s : ℕ) (ps qs : List Pixel) : Type 0 where
+  pub as-many : length qs ≡ length ps
   pub counts : spent qs ≡ spent ps + s
   pub within : s ≤ budget
   pub walks : Went (clear-at v b i j) (v .far) s (pixel-in v ps i j) (pixel-in v qs i j)

@@ -1,2 +1,3 @@
 pub mod View
+pub mod Told
 pub mod March
