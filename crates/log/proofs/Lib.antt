@@ -5,4 +5,5 @@ pub mod Sanity
 pub mod Bytes
 pub mod Steps
 pub mod Lines
+pub mod Worked
 pub mod Upshot

@@ -2,4 +2,5 @@ pub mod Told
 pub mod Sweep
 pub mod Log
 pub mod Fair
+pub mod Example
 pub mod Law
