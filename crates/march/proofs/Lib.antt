@@ -1,3 +1,4 @@
 pub mod Space
 pub mod Ray
 pub mod Bodies
+pub mod Numbers

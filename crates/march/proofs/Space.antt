@@ -3,7 +3,9 @@ use mathlib.Core.Path.{_≡_}
 use Prim.Native.Nat.{ℕ, zero, suc, _+_, _-_, _≤_, _<_}
 use native.Mathlib.Omega.{arith}
 use lib.IntN.{ℤ, pos, negsuc, _+ℤ_, _*ℤ_, natAbs}
-use borrow.Author.Differences.{ints}
+use mir.Syntax.{w32}
+use mir.Val.{toZ, ofZ}
+use Rattle.std.proofs.shelf.Signed.{ints}
 use Rattle.lattice.specs.Space.{gap, dist, In}
 use Rattle.lattice.specs.declared.Point.{Point}
 use Rattle.lattice.specs.declared.direction.Direction.{Direction}
@@ -25,6 +27,15 @@ size-along a (pos (suc zero)) n r m h ha hn = omega (arith, ints)
 size-along a (pos (suc (suc k))) n r m h ha hn = absurd (omega arith)
 size-along a (negsuc zero) n r m h ha hn = omega (arith, ints)
 size-along a (negsuc (suc k)) n r m h ha hn = absurd (omega arith)
+
+-- the same, as the code computes it in 32 bits
+pub ahead-is : (a d : ℤ) (n : ℕ) → natAbs a ≤ 32767 → n ≤ 4095 → natAbs d ≤ 1
+    → toZ w32 (ofZ w32 (toZ w32 (ofZ w32 a) +ℤ toZ w32 (ofZ w32 (toZ w32 n *ℤ toZ w32 (ofZ w32 d))))) ≡ a +ℤ (pos n *ℤ d)
+ahead-is a (pos zero) n ha hn h = omega (arith, ints)
+ahead-is a (pos (suc zero)) n ha hn h = omega (arith, ints)
+ahead-is a (pos (suc (suc k))) n ha hn h = absurd (omega arith)
+ahead-is a (negsuc zero) n ha hn h = omega (arith, ints)
+ahead-is a (negsuc (suc k)) n ha hn h = absurd (omega arith)
 
 -- at most m steps from a point whose parts are at most r in size
 pub in-along : (p : Point) (d : Direction) (n r m : ℕ) → In r p → n ≤ m → In (r + m) (along p n d)
