@@ -2,10 +2,10 @@
 use Prim.Native.Nat.{ℕ}
 use Rattle.march.specs.Told.{view-told}
 use Rattle.log.specs.declared.fault.PlateFault.{PlateFault}
-use Rattle.log.specs.declared.fault.PlateFault.the-variants.{Numbers, TooFewRecords, NoPixel, Shallow, StillMarching, NoRoom}
+use Rattle.log.specs.declared.fault.PlateFault.the-variants.{View, TooFewRecords, NoPixel, Shallow, StillMarching, NoRoom}
 
 abbrev pub plate-told : PlateFault → ℕ × ℕ
-plate-told (Numbers f) = view-told f
+plate-told (View fault) = view-told fault
 plate-told TooFewRecords = (18, 0)
 plate-told NoPixel = (19, 0)
 plate-told Shallow = (16, 0)

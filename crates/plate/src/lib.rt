@@ -1,0 +1,73 @@
+//! The plate: pixels over the caller's records, swept and touched until every ray has settled,
+//! read one by one, and written as an image.
+ghost use mathlib.Core.Path.{_≡_};
+ghost use mathlib.Core.Bool.{true, cond};
+ghost use mathlib.Core.List.{_++_};
+ghost use denote.Ref.{now, name};
+ghost use Prim.Native.Nat.{ℕ, _+_, _-_, _*_, _<_, _≤_};
+ghost use lib.IntN.{pos, natAbs, _+ℤ_, _*ℤ_};
+ghost use lib.ListN.{length, take, drop, set, getD, replicate};
+ghost use lib.Seq.{paste};
+ghost use Rattle.lattice.specs.Space.{In};
+ghost use Rattle.march.specs.View.{along, start};
+ghost use Rattle.march.specs.March.{fresh, sane, marches, stepped, settled};
+ghost use Rattle.words.specs.Words.{four};
+ghost use Rattle.log.specs.Sweep.{all-sane, marching, swept};
+ghost use Rattle.log.specs.Log.{area, place, clear-at, along-ray, word, image};
+use lattice::Point;
+use lattice::direction::Direction;
+use march::pixel::Pixel;
+use march::view::View;
+use solid::Solid;
+
+/// A plate over the records that its user lends. It has one pixel for each of its view's, row by
+/// row; the records past the last pixel are never written.
+#[derive(Drop)]
+pub struct Plate<'a> {
+    records: &'a mut [Pixel],
+    view: View,
+    ghost room: { area view ≤ length (now records) },
+    ghost sound: { all-sane (view .far) (take (area view) (now records)) ≡ true },
+}
+
+/// A solid is taken where it answers at every point whose coordinates are at most this, in size.
+const WORKING: u32 = 32767;
+
+/// n steps of a part of a direction, on one axis.
+fn ahead(from: i32, n: u32, d: i32) -> i32
+    requires { ⌜ (natAbs from ≤ 32767) × (n ≤ 4095) × (natAbs d ≤ 1) ⌝ }
+    ensures { λ r. ⌜ r ≡ from +ℤ (pos n *ℤ d) ⌝ }
+{
+    from + n as i32 * d
+}
+
+fn moved(p: Point, n: u32, d: Direction) -> Point
+    requires { ⌜ In 32767 p × (n ≤ 4095) ⌝ }
+    ensures { λ r. ⌜ r ≡ along p n d ⌝ }
+{
+    Point { x: ahead(p.x, n, d.x), y: ahead(p.y, n, d.y), z: ahead(p.z, n, d.z) }
+}
+
+/// Where the ray of pixel (i, j) starts.
+fn start_of(view: &View, i: u32, j: u32) -> Point
+    requires { ⌜ (i < now view .width) × (j < now view .height) ⌝ }
+    ensures { λ r. ⌜ r ≡ start (now (view .entry)) i j ⌝ }
+{
+    moved(moved(view.origin, i, view.across), j, view.down)
+}
+
+/// One step of a ray that marches at t: its state once it has asked the solid there.
+fn step<S: Solid>(solid: &S, view: &View, start: Point, t: u32, probes: u32) -> Pixel
+    requires near { ⌜ In 16510 start ⌝ }
+    requires within { ⌜ (t ≤ now view .far) × (probes ≤ t) ⌝ }
+    requires reaches { ⌜ 32767 ≤ S·Solid .body (now solid) .reach ⌝ }
+    ensures value { λ r. ⌜ r ≡ stepped (now (view .entry) .far) t probes (S·Solid .body (now (solid .entry)) .clear (along start t (now (view .entry) .ray))) ⌝ }
+    ensures sound { λ r. ⌜ sane (now (view .entry) .far) r ≡ true ⌝ }
+{
+    match solid.clearance(moved(start, t, view.ray)) {
+        Ok(0) => Pixel::Hit { depth: t, probes: probes + 1 },
+        Ok(c) if c > view.far - t => Pixel::Miss { probes: probes + 1 },
+        Ok(c) => Pixel::Marching { t: t + c, probes: probes + 1 },
+        Err(_) => Pixel::Marching { t, probes },
+    }
+}
