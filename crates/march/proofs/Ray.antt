@@ -1,9 +1,9 @@
 -- One ray, by the clearance c and the members M at each t of it.
-use mathlib.Core.Path.{_≡_, refl}
+use mathlib.Core.Path.{_≡_, refl, sym, ap, subst, _∙_}
 use mathlib.Core.Bool.{Bool, true, false, cond}
 use mathlib.Core.Logic.{_⊎_, inl, inr}
 use Prim.Native.Nat.{ℕ, zero, suc, _+_, _-_, _≤_, _<_}
-use native.Mathlib.Nat.{suc-add}
+use native.Mathlib.Nat.{suc-add, zero-add}
 use native.Mathlib.Numerals.{one-add}
 use native.Mathlib.Omega.{arith}
 use lib.Dec.{leb, ltb, eqb}
@@ -15,12 +15,12 @@ use Rattle.march.specs.March.{stepped, marches, probes, sane, settled, Takes, 
 -- the three ways that a step can go
 pub stepped-by : (P : Pixel → Type 0) (far t n c : ℕ) → (c ≡ 0 → P (Hit t (n + 1))) → (0 < c → far < t + c → P (Miss (n + 1))) → (0 < c → t + c ≤ far → P (Marching (t + c) (n + 1))) → P (stepped far t n c)
 stepped-by P far t n c hit miss on =
-  cond-both (eqb c 0) (Hit t (n + 1)) (cond (ltb far (t + c)) (Miss (n + 1)) (Marching (t + c) (n + 1))) P
+    cond-both (eqb c 0) (Hit t (n + 1)) (cond (ltb far (t + c)) (Miss (n + 1)) (Marching (t + c) (n + 1))) P
     (λ e. hit (eqb-true c 0 e))
     (λ e. let some : 0 < c = omega (arith, eqb-false c 0 e) in
-      cond-both (ltb far (t + c)) (Miss (n + 1)) (Marching (t + c) (n + 1)) P
-        (λ l. miss some (ltb-true far (t + c) l))
-        (λ l. on some (ltb-false far (t + c) l)))
+    cond-both (ltb far (t + c)) (Miss (n + 1)) (Marching (t + c) (n + 1)) P
+    (λ l. miss some (ltb-true far (t + c) l))
+    (λ l. on some (ltb-false far (t + c) l)))
 
 -- what each step keeps, settling keeps
 pub settled-keeps : (P : Pixel → Type 0) (clear : ℕ → ℕ) (far : ℕ) → ((t n : ℕ) → P (Marching t n) → P (stepped far t n (clear t))) → (budget : ℕ) (p : Pixel) → P p → P (settled clear far budget p .0)
@@ -42,7 +42,7 @@ sane-parts far t n e = let p = and-parts (leb t far) (leb n t) e in (leb-true t 
 
 pub sane-step : (far t n c : ℕ) → t ≤ far → n ≤ t → sane far (stepped far t n c) ≡ true
 sane-step far t n c h l =
-  stepped-by (λ p. sane far p ≡ true) far t n c
+    stepped-by (λ p. sane far p ≡ true) far t n c
     (λ _. and-from (leb t far) (leb (n + 1) (far + 1)) (le-leb t far h) (le-leb (n + 1) (far + 1) (omega arith)))
     (λ _ _. le-leb (n + 1) (far + 1) (omega arith))
     (λ some on. and-from (leb (t + c) far) (leb (n + 1) (t + c)) (le-leb (t + c) far on) (le-leb (n + 1) (t + c) (omega arith)))
@@ -70,7 +70,7 @@ module _ (M : ℕ → Bool) (far : ℕ) (c : ℕ → ℕ) (cl : Clears M far c) 
 
   pub right-step : (t n : ℕ) → Right M far (Marching t n) → Right M far (stepped far t n (c t))
   right-step t n h =
-    stepped-by (Right M far) far t n (c t)
+      stepped-by (Right M far) far t n (c t)
       (λ e. (h .0, record { there = cl .hit t (h .0) e; none-before = h .1 }))
       (λ some past. λ u le. free-on t (h .0) (h .1) u (omega arith))
       (λ some on. (on, λ u lt. free-on t (h .0) (h .1) u lt))
@@ -105,12 +105,12 @@ behind M far r ri t c ht some none le on {s} sle (goes-on {n = j} a b k) = (s + 
 
 pub lags-step : (M : ℕ → Bool) (far : ℕ) (r c : ℕ → ℕ) → Rides M far r → Clears M far c → ((t : ℕ) → t ≤ far → r t ≤ c t) → (m t n : ℕ) → Right M far (Marching t n) → Lags r far m (Marching t n) → Lags r far m (stepped far t n (c t))
 lags-step M far r c ri cl under m t n h (s, k, sle, e, takes) =
-  stepped-by (Lags r far m) far t n (c t)
+    stepped-by (Lags r far m) far t n (c t)
     (λ _. omega (arith, some-probe takes))
     (λ _ _. omega (arith, some-probe takes))
     (λ some on.
-      let b = behind M far r ri t (c t) (h .0) some (free-on M far c cl t (h .0) (h .1)) (under t (h .0)) on sle takes in
-      (b .0, b .1, b .2, omega (arith, b .3), b .4))
+    let b = behind M far r ri t (c t) (h .0) some (free-on M far c cl t (h .0) (h .1)) (under t (h .0)) on sle takes in
+    (b .0, b .1, b .2, omega (arith, b .3), b .4))
 
 pub lags-ends : (r : ℕ → ℕ) (far m : ℕ) (p : Pixel) → marches p ≡ false → Lags r far m p → probes p ≤ m
 lags-ends r far m (Marching t n) e h = absurd (both-ways true e refl)
@@ -125,9 +125,10 @@ takes-some c far (suc fuel) t le h = from (c t) refl (takes-some c far fuel (t +
     from : (d : ℕ) → c t ≡ d → (t + c t ≤ far → far < t + c t + fuel → (n : ℕ) × (n ≤ fuel) × Takes c far (t + c t) n) → (n : ℕ) × (n ≤ suc fuel) × Takes c far t n
     from zero e _ = (1, omega arith, hits e)
     from (suc d) e more =
-      elim (cases-lt far (t + c t))
-        [ inl past ↦ (1, omega arith, misses (omega arith) past)
-        | inr on ↦ let m = more on (omega arith) in (suc (m .0), omega arith, goes-on (omega arith) on (m .2)) ]
+        elim (cases-lt far (t + c t)) [
+          | inl past ↦ (1, omega arith, misses (omega arith) past)
+          | inr on ↦ let m = more on (omega arith) in (suc (m .0), omega arith, goes-on (omega arith) on (m .2))
+        ]
 
 -- a march that takes k probes is settled by any budget of k or more, with k probes more, and leaves the rest of the budget
 abbrev pub Settles : (ℕ → ℕ) → (far budget left m : ℕ) → Pixel → Type 0
@@ -143,9 +144,27 @@ miss-settles c far (suc b) n = (refl, refl, refl)
 
 pub takes-settles : (c : ℕ → ℕ) (far b n : ℕ) {t k : ℕ} → Takes c far t k → Settles c far (k + b) b (n + k) (Marching t n)
 takes-settles c far b n (hits {t} e) =
-  rw (one-add b) (stepped-by (Settles c far b b (n + 1)) far t n (c t) (λ _. hit-settles c far b t (n + 1)) (λ y z. absurd (omega arith)) (λ y z. absurd (omega arith)))
+    rw (one-add b) (stepped-by (Settles c far b b (n + 1)) far t n (c t) (λ _. hit-settles c far b t (n + 1)) (λ y z. absurd (omega arith)) (λ y z. absurd (omega arith)))
 takes-settles c far b n (misses {t} a l) =
-  rw (one-add b) (stepped-by (Settles c far b b (n + 1)) far t n (c t) (λ y. absurd (omega arith)) (λ _ _. miss-settles c far b (n + 1)) (λ y z. absurd (omega arith)))
+    rw (one-add b) (stepped-by (Settles c far b b (n + 1)) far t n (c t) (λ y. absurd (omega arith)) (λ _ _. miss-settles c far b (n + 1)) (λ y z. absurd (omega arith)))
 takes-settles c far b n (goes-on {t} {n = k} a l x) =
-  rw (suc-add k b) (stepped-by (Settles c far (k + b) b (n + suc k)) far t n (c t) (λ y. absurd (omega arith)) (λ y z. absurd (omega arith))
+    rw (suc-add k b) (stepped-by (Settles c far (k + b) b (n + suc k)) far t n (c t) (λ y. absurd (omega arith)) (λ y z. absurd (omega arith))
     (λ _ _. let ih = takes-settles c far b (n + 1) x in (ih .0, omega (arith, ih .1), ih .2)))
+
+-- whatever the clearance, a march is settled by far + 1 steps, and by more in the same way
+pub settled-ends : (c : ℕ → ℕ) (far b t n : ℕ) → t ≤ far → far < t + b → marches (settled c far b (Marching t n) .0) ≡ false
+settled-ends c far b t n le h =
+    let k = takes-some c far b t le h in
+    let e : k .0 + (b - k .0) ≡ b = omega arith in
+    subst (λ (b : ℕ). marches (settled c far b (Marching t n) .0) ≡ false) e (takes-settles c far (b - k .0) n (k .2) .0)
+
+settled-more : (c : ℕ → ℕ) (far b r : ℕ) (p : Pixel) → marches (settled c far b p .0) ≡ false → settled c far (b + r) p .0 ≡ settled c far b p .0
+settled-more c far zero r p e = rw (zero-add r) (ap (λ (s : Pixel × ℕ). s .0) (settled-stays c far r p e))
+settled-more c far (suc b) r (Marching t n) e = rw (suc-add b r) (settled-more c far b r (stepped far t n (c t)) e)
+settled-more c far (suc b) r (Hit d n) e = rw (suc-add b r) refl
+settled-more c far (suc b) r (Miss n) e = rw (suc-add b r) refl
+
+pub settled-same : (c : ℕ → ℕ) (far a b t n : ℕ) → t ≤ far → far < t + a → a ≤ b → settled c far b (Marching t n) .0 ≡ settled c far a (Marching t n) .0
+settled-same c far a b t n le h more =
+    let e : a + (b - a) ≡ b = omega arith in
+    ap (λ (b : ℕ). settled c far b (Marching t n) .0) (sym e) ∙ settled-more c far a (b - a) (Marching t n) (settled-ends c far a t n le h)

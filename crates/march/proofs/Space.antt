@@ -39,18 +39,19 @@ ahead-is a (negsuc (suc k)) n ha hn h = absurd (omega arith)
 
 -- at most m steps from a point whose parts are at most r in size
 pub in-along : (p : Point) (d : Direction) (n r m : ℕ) → In r p → n ≤ m → In (r + m) (along p n d)
-in-along p d n r m hp hn =
-  ( size-along (p .x) (d .x) n r m (d .flat) (hp .0) hn
-  , size-along (p .y) (d .y) n r m (d .level) (hp .1) hn
-  , size-along (p .z) (d .z) n r m (d .plumb) (hp .2) hn )
+in-along p d n r m hp hn = (
+  size-along (p .x) (d .x) n r m (d .flat) (hp .0) hn,
+  size-along (p .y) (d .y) n r m (d .level) (hp .1) hn,
+  size-along (p .z) (d .z) n r m (d .plumb) (hp .2) hn,
+)
 
 -- two points of one ray
 pub dist-along : (p : Point) (d : Direction) (s t : ℕ) → s ≤ t → dist (along p s d) (along p t d) ≤ t - s
 dist-along p d s t le =
-  let a = gap-along (p .x) (d .x) s t (d .flat) le in
-  let b = gap-along (p .y) (d .y) s t (d .level) le in
-  let c = gap-along (p .z) (d .z) s t (d .plumb) le in
-  omega arith
+    let a = gap-along (p .x) (d .x) s t (d .flat) le in
+    let b = gap-along (p .y) (d .y) s t (d .level) le in
+    let c = gap-along (p .z) (d .z) s t (d .plumb) le in
+    omega arith
 
 -- a ray that starts where a view's rays may start stays in the working range
 pub ray-in : (p : Point) (d : Direction) (t far : ℕ) → In 16510 p → far ≤ 4095 → t ≤ far → In 32767 (along p t d)

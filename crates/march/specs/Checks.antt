@@ -41,9 +41,15 @@ pub record PlainView : Type 0 where
   pub far : ℕ
 
 abbrev pub plain-view : View → PlainView
-plain-view v = record
-  { origin = v .origin; ray = way (v .ray); across = way (v .across); down = way (v .down)
-  ; width = v .width; height = v .height; far = v .far }
+plain-view v = record {
+  origin = v .origin;
+  ray = way (v .ray);
+  across = way (v .across);
+  down = way (v .down);
+  width = v .width;
+  height = v .height;
+  far = v .far;
+}
 
 abbrev pub plain-in : Result View ViewFault → Result PlainView ViewFault
 plain-in (Ok v) = Ok (plain-view v)
@@ -72,21 +78,21 @@ row-answer n place = okOr (row-of n) (Row place)
 
 unfoldable pub origin-answer : ViewNumbers → Result Point ViewFault
 origin-answer n =
-  and-then (part-answer (n .origin .x) 1) (λ x. and-then (part-answer (n .origin .y) 2) (λ y. and-then (part-answer (n .origin .z) 3) (λ z.
-  Ok (record { x = x; y = y; z = z }))))
+    and-then (part-answer (n .origin .x) 1) (λ x. and-then (part-answer (n .origin .y) 2) (λ y. and-then (part-answer (n .origin .z) 3) (λ z.
+    Ok (record { x = x; y = y; z = z }))))
 
 unfoldable pub ways-answer : ViewNumbers → Result (Way × Way × Way) ViewFault
 ways-answer n =
-  and-then (row-answer (n .ray) 4) (λ ray. and-then (row-answer (n .across) 5) (λ across. and-then (row-answer (n .down) 6) (λ down.
-  Ok (ray, across, down))))
+    and-then (row-answer (n .ray) 4) (λ ray. and-then (row-answer (n .across) 5) (λ across. and-then (row-answer (n .down) 6) (λ down.
+    Ok (ray, across, down))))
 
 unfoldable pub sizes-answer : ViewNumbers → Result (ℕ × ℕ × ℕ) ViewFault
 sizes-answer n =
-  and-then (count-answer (pos 1) (pos 64) (n .width) 7) (λ width. and-then (count-answer (pos 1) (pos 64) (n .height) 8) (λ height.
-  and-then (count-answer (pos 0) (pos 4095) (n .far) 9) (λ far.
-  Ok (width, height, far))))
+    and-then (count-answer (pos 1) (pos 64) (n .width) 7) (λ width. and-then (count-answer (pos 1) (pos 64) (n .height) 8) (λ height.
+    and-then (count-answer (pos 0) (pos 4095) (n .far) 9) (λ far.
+    Ok (width, height, far))))
 
 abbrev pub view-answer : ViewNumbers → Result PlainView ViewFault
 view-answer n =
-  and-then (origin-answer n) (λ o. and-then (ways-answer n) (λ w. and-then (sizes-answer n) (λ s.
-  Ok (record { origin = o; ray = w .0; across = w .1; down = w .2; width = s .0; height = s .1; far = s .2 }))))
+    and-then (origin-answer n) (λ o. and-then (ways-answer n) (λ w. and-then (sizes-answer n) (λ s.
+    Ok (record { origin = o; ray = w .0; across = w .1; down = w .2; width = s .0; height = s .1; far = s .2 }))))

@@ -47,9 +47,10 @@ new-ray v i j = record { start = along-way (along-way (v .origin) i (v .across))
 
 abbrev pub ray-answer : ViewNumbers → (i j : ℕ) → Result PlainRay RayFault
 ray-answer n i j =
-  elim (view-answer n)
-    [ Ok v ↦ cond (ltb i (v .width) && ltb j (v .height)) (Ok (new-ray v i j)) (Err NoPixel)
-    | Err f ↦ Err (View f) ]
+    elim (view-answer n) [
+      | Ok v ↦ cond (ltb i (v .width) && ltb j (v .height)) (Ok (new-ray v i j)) (Err NoPixel)
+      | Err f ↦ Err (View f)
+    ]
 
 abbrev pub ray-in : Result Marching RayFault → Result PlainRay RayFault
 ray-in (Ok m) = Ok (plain-ray m)
@@ -85,11 +86,13 @@ after r (marching t n) = on (record { start = r .start; toward = r .toward; far 
 after r (hit d n) = done (hit d n)
 after r (miss n) = done (miss n)
 
--- a step, which hands the ray back as it was where the solid does not reach as far as the working range
+-- one step: it asks the clearance at its t
+abbrev pub step-of : Body → PlainRay → PlainStepped
+step-of b r = after r (stepped (r .far) (r .t) (r .probes) (clear-of b r (r .t)))
+
+-- a step over a solid, which hands the ray back as it was where the solid does not reach as far as the working range
 abbrev pub step-answer : Body → Marching → Result PlainStepped (StepFault × Marching)
-step-answer b m =
-  let r = plain-ray m in
-  cond (ltb (b .reach) 32767) (Err (Shallow, m)) (Ok (after r (stepped (r .far) (r .t) (r .probes) (clear-of b r (r .t)))))
+step-answer b m = cond (ltb (b .reach) 32767) (Err (Shallow, m)) (Ok (step-of b (plain-ray m)))
 
 abbrev pub step-in : Result Stepped (StepFault × Marching) → Result PlainStepped (StepFault × Marching)
 step-in (Ok s) = Ok (plain-stepped s)

@@ -4,13 +4,13 @@ ghost use Prim.Native.Nat.{_≤_};
 ghost use lib.IntN.{natAbs};
 ghost use Rattle.march.specs.Told.{step-told, ray-told};
 ghost use Rattle.march.specs.declared.rays.RayFault.the-variants.{View};
-use lattice::Point;
-use lattice::direction::Direction;
-use refusal::Refusal;
 use crate::view::ViewFault;
 use crate::view::ViewFaultDebug;
 use crate::view::ViewFaultPartialEq;
 use crate::view::ViewRefusal;
+use lattice::Point;
+use lattice::direction::Direction;
+use refusal::Refusal;
 
 pub mod steps;
 

@@ -3,9 +3,9 @@ ghost use Prim.Native.Nat.{_≤_};
 ghost use lib.IntN.{natAbs};
 ghost use Rattle.march.specs.Told.{view-told};
 use lattice::Point;
-use lattice::direction::Direction;
 use lattice::PointDebug;
 use lattice::PointPartialEq;
+use lattice::direction::Direction;
 use lattice::direction::DirectionDebug;
 use refusal::Refusal;
 
@@ -54,6 +54,7 @@ pub enum ViewFault {
 }
 
 const OUT_OF_RANGE: u32 = 4;
+
 const NO_ROW: u32 = 5;
 
 pub impl Refusal for ViewFault as ViewRefusal {

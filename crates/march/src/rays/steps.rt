@@ -5,12 +5,8 @@ ghost use lib.IntN.{pos, natAbs, _+ℤ_, _*ℤ_};
 ghost use Rattle.lattice.specs.Space.{In};
 ghost use Rattle.march.specs.View.{along};
 ghost use Rattle.march.specs.March.{stepped};
-ghost use Rattle.march.specs.Rays.{ray-in, ray-answer, depth-of, after, plain-stepped, step-in, step-answer, settle-in, settle-answer, Contact-in};
-use lattice::Point;
-use lattice::direction::Direction;
-use solid::Solid;
-use crate::view::View;
-use crate::view::ViewNumbers;
+ghost use Rattle.march.specs.Rays.{ray-in, ray-answer, depth-of, plain-ray, plain-stepped, after, step-of};
+ghost use Rattle.march.specs.Rays.{step-in, step-answer, settle-in, settle-answer, Contact-in};
 use super::Marching;
 use super::Outcome;
 use super::RayFault;
@@ -18,6 +14,11 @@ use super::RayFaultFromView;
 use super::Settled;
 use super::StepFault;
 use super::Stepped;
+use crate::view::View;
+use crate::view::ViewNumbers;
+use lattice::Point;
+use lattice::direction::Direction;
+use solid::Solid;
 
 /// The working range is the points whose coordinates are at most this, in size.
 const WORKING: u32 = 32767;
@@ -34,7 +35,11 @@ fn moved(p: Point, n: u32, d: Direction) -> Point
     requires { ⌜ In 32767 p × (n ≤ 4095) ⌝ }
     ensures { λ r. ⌜ r ≡ along p n d ⌝ }
 {
-    Point { x: ahead(p.x, n, d.x), y: ahead(p.y, n, d.y), z: ahead(p.z, n, d.z) }
+    Point {
+        x: ahead(p.x, n, d.x),
+        y: ahead(p.y, n, d.y),
+        z: ahead(p.z, n, d.z),
+    }
 }
 
 impl Marching {
@@ -47,7 +52,13 @@ impl Marching {
             return Err(RayFault::NoPixel);
         }
         let start = moved(moved(view.origin, i, view.across), j, view.down);
-        Ok(Marching { start, toward: view.ray, far: view.far, t: 0, probes: 0 })
+        Ok(Marching {
+            start,
+            toward: view.ray,
+            far: view.far,
+            t: 0,
+            probes: 0,
+        })
     }
 
     /// How far it has come.
@@ -69,5 +80,96 @@ impl Marching {
         ensures { λ r. ⌜ r ≡ along (now (self .entry) .start) (now (self .entry) .t) (now (self .entry) .toward) ⌝ }
     {
         moved(self.start, self.t, self.toward)
+    }
+
+    /// The ray once it has asked, and was answered c.
+    fn answered(self, c: u32) -> Stepped
+        ensures { λ r. ⌜ plain-stepped r ≡ after (plain-ray self) (stepped (self .far) (self .t) (self .probes) c) ⌝ }
+    {
+        let probes = self.probes + 1;
+        if c == 0 {
+            return Stepped::Done(Settled {
+                outcome: Outcome::Hit { depth: self.t },
+                probes,
+            });
+        }
+        if c > self.far - self.t {
+            return Stepped::Done(Settled {
+                outcome: Outcome::Miss,
+                probes,
+            });
+        }
+        Stepped::On(Marching {
+            start: self.start,
+            toward: self.toward,
+            far: self.far,
+            t: self.t + c,
+            probes,
+        })
+    }
+
+    /// One step over a solid that answers on all of the working range.
+    fn asked<S: Solid>(self, solid: &S) -> Stepped
+        requires { ⌜ 32767 ≤ S·Solid .body (now solid) .reach ⌝ }
+        ensures { λ r. ⌜ plain-stepped r ≡ step-of (S·Solid .body (now (solid .entry))) (plain-ray self) ⌝ }
+    {
+        match solid.clearance(self.tip()) {
+            Ok(c) => self.answered(c),
+            Err(_) => Stepped::On(self),
+        }
+    }
+
+    /// One step: it asks the solid at its tip, and then it has settled or marches on. A solid of too
+    /// small a reach is refused, and the ray handed back as it was.
+    pub fn step<S: Solid>(self, solid: &S) -> Result<Stepped, (StepFault, Marching)>
+        ensures { λ r. ⌜ step-in r ≡ step-answer (S·Solid .body (now (solid .entry))) self ⌝ }
+    {
+        if solid.reach() < WORKING {
+            return Err((StepFault::Shallow, self));
+        }
+        Ok(self.asked(solid))
+    }
+
+    /// Steps until it settles. A solid of too small a reach is refused, and the ray handed back as it was.
+    pub fn settle<S: Solid>(self, solid: &S) -> Result<Settled, (StepFault, Marching)>
+        ensures value { λ r. ⌜ settle-in r ≡ settle-answer (S·Solid .body (now (solid .entry))) self ⌝ }
+        ensures law { λ r. ⌜ Contact-in (S·Solid .body (now (solid .entry))) self r ⌝ }
+    {
+        if solid.reach() < WORKING {
+            return Err((StepFault::Shallow, self));
+        }
+        let mut ray = self;
+        loop {
+            match ray.asked(solid) {
+                Stepped::On(next) => ray = next,
+                Stepped::Done(settled) => return Ok(settled),
+            }
+        }
+    }
+}
+
+impl Settled {
+    /// How it settled.
+    pub fn outcome(&self) -> Outcome
+        ensures { λ r. ⌜ r ≡ now (self .entry) .outcome ⌝ }
+    {
+        self.outcome
+    }
+
+    /// The depth of its first contact; none for a miss.
+    pub fn depth(&self) -> Option<u32>
+        ensures { λ r. ⌜ r ≡ depth-of (now (self .entry) .outcome) ⌝ }
+    {
+        match self.outcome {
+            Outcome::Hit { depth } => Some(depth),
+            Outcome::Miss => None,
+        }
+    }
+
+    /// How often it has asked.
+    pub fn probes(&self) -> u32
+        ensures { λ r. ⌜ r ≡ now (self .entry) .probes ⌝ }
+    {
+        self.probes
     }
 }

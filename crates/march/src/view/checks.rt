@@ -2,18 +2,20 @@
 ghost use mathlib.Core.Path.{_≡_};
 ghost use Rattle.march.specs.Checks.{range-answer, count-answer, row-answer, origin-answer, ways-answer, sizes-answer, view-answer};
 ghost use Rattle.march.specs.Checks.{way-in, ways-in, plain-in};
-use lattice::Point;
-use lattice::direction::Direction;
 use super::View;
 use super::ViewFault;
 use super::ViewNumbers;
+use lattice::Point;
+use lattice::direction::Direction;
 
 /// The parts of an origin.
 const LEAST_PART: i32 = -16384;
+
 const MOST_PART: i32 = 16383;
 
 /// The sides of a picture, in pixels, and how far its rays go.
 const MOST_PIXELS: i32 = 64;
+
 const MOST_FAR: i32 = 4095;
 
 fn ranged(n: i32, least: i32, most: i32, place: u32) -> Result<i32, ViewFault>
@@ -72,6 +74,14 @@ impl View {
         let origin = origin(numbers)?;
         let (ray, across, down) = ways(numbers)?;
         let (width, height, far) = sizes(numbers)?;
-        Ok(View { origin, ray, across, down, width, height, far })
+        Ok(View {
+            origin,
+            ray,
+            across,
+            down,
+            width,
+            height,
+            far,
+        })
     }
 }
