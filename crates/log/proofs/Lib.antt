@@ -7,3 +7,4 @@ pub mod Steps
 pub mod Lines
 pub mod Worked
 pub mod Upshot
+pub mod Onward

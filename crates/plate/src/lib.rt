@@ -71,3 +71,83 @@ fn step<S: Solid>(solid: &S, view: &View, start: Point, t: u32, probes: u32) -> 
         Err(_) => Pixel::Marching { t, probes },
     }
 }
+
+fn is_marching(pixel: Pixel) -> bool
+    ensures { λ r. ⌜ r ≡ marches pixel ⌝ }
+{
+    match pixel {
+        Pixel::Marching { .. } => true,
+        _ => false,
+    }
+}
+
+/// How many of the pixels march.
+fn count_marching(pixels: &[Pixel]) -> u32
+    requires { ⌜ length (now pixels) ≤ 4096 ⌝ }
+    ensures { λ r. ⌜ r ≡ marching (now (pixels .entry)) ⌝ }
+{
+    let mut n = 0;
+    for pixel in pixels {
+        if is_marching(*pixel) {
+            n += 1;
+        }
+    }
+    n
+}
+
+/// Makes the first n records those of new rays.
+fn renew(records: &mut [Pixel], n: usize)
+    requires { ⌜ n ≤ length (now records) ⌝ }
+    ensures { λ _. ⌜ now (records .exit) ≡ replicate n fresh ++ drop n (now (records .entry)) ⌝ }
+{
+    records[0..n].fill(Pixel::Marching { t: 0, probes: 0 });
+}
+
+/// Steps the pixels row by row, each until it settles, and stops the moment the budget is spent.
+/// How much was spent.
+fn sweep_all<S: Solid>(pixels: &mut [Pixel], view: &View, solid: &S, budget: u32) -> u32
+    requires all { ⌜ length (now pixels) ≡ area (now view) ⌝ }
+    requires reaches { ⌜ 32767 ≤ S·Solid .body (now solid) .reach ⌝ }
+    requires sound { ⌜ all-sane (now view .far) (now pixels) ≡ true ⌝ }
+    ensures value { λ _. ⌜ now (pixels .exit) ≡ swept (along-ray (now (view .entry)) (S·Solid .body (now (solid .entry)))) (now (view .entry) .far) budget 0 (now (pixels .entry)) .0 ⌝ }
+    ensures spent { λ r. ⌜ r ≡ budget - swept (along-ray (now (view .entry)) (S·Solid .body (now (solid .entry)))) (now (view .entry) .far) budget 0 (now (pixels .entry)) .1 ⌝ }
+    ensures sound { λ _. ⌜ all-sane (now (view .entry) .far) (now (pixels .exit)) ≡ true ⌝ }
+{
+    let mut spent = 0;
+    'sweep: for j in 0..view.height {
+        for i in 0..view.width {
+            let start = start_of(view, i, j);
+            let k = j as usize * view.width as usize + i as usize;
+            while let Pixel::Marching { t, probes } = pixels[k] {
+                if spent == budget {
+                    break 'sweep;
+                }
+                pixels[k] = step(solid, view, start, t, probes);
+                spent += 1;
+            }
+        }
+    }
+    spent
+}
+
+/// Steps pixel (i, j), whose record is at k, until it settles or the budget is spent. How much was spent.
+fn settle<S: Solid>(records: &mut [Pixel], k: usize, view: &View, i: u32, j: u32, solid: &S, budget: u32) -> u32
+    requires there { ⌜ k < length (now records) ⌝ }
+    requires within { ⌜ (i < now view .width) × (j < now view .height) ⌝ }
+    requires reaches { ⌜ 32767 ≤ S·Solid .body (now solid) .reach ⌝ }
+    requires sound { ⌜ sane (now view .far) (getD (now records) k fresh) ≡ true ⌝ }
+    ensures value { λ _. ⌜ now (records .exit) ≡ set (now (records .entry)) k (settled (clear-at (now (view .entry)) (S·Solid .body (now (solid .entry))) i j) (now (view .entry) .far) budget (getD (now (records .entry)) k fresh) .0) ⌝ }
+    ensures spent { λ r. ⌜ r ≡ budget - settled (clear-at (now (view .entry)) (S·Solid .body (now (solid .entry))) i j) (now (view .entry) .far) budget (getD (now (records .entry)) k fresh) .1 ⌝ }
+    ensures sound { λ _. ⌜ sane (now (view .entry) .far) (getD (now (records .exit)) k fresh) ≡ true ⌝ }
+{
+    let start = start_of(view, i, j);
+    let mut spent = 0;
+    while let Pixel::Marching { t, probes } = records[k] {
+        if spent == budget {
+            break;
+        }
+        records[k] = step(solid, view, start, t, probes);
+        spent += 1;
+    }
+    spent
+}
