@@ -8,3 +8,4 @@ pub mod Lines
 pub mod Worked
 pub mod Upshot
 pub mod Onward
+pub mod Calls

@@ -151,3 +151,46 @@ fn settle<S: Solid>(records: &mut [Pixel], k: usize, view: &View, i: u32, j: u32
     }
     spent
 }
+
+/// Bits 31..28 of a word are its kind.
+const KIND: u32 = 0x1000_0000;
+const NUMBER: u32 = 2 * KIND;
+const IMAGE: u32 = 10 * KIND;
+const HIT: u32 = 11 * KIND;
+const MISS: u32 = 12 * KIND;
+
+/// Bits 27..16 are the first of two numbers, bits 15..0 the second.
+const FIRST: u32 = 0x1_0000;
+
+/// A pixel as a word of an image, where it has settled.
+fn word_of(pixel: Pixel) -> u32
+    requires { ⌜ sane 4095 pixel ≡ true ⌝ }
+    ensures { λ r. ⌜ r ≡ word pixel ⌝ }
+{
+    match pixel {
+        Pixel::Marching { .. } => 0,
+        Pixel::Hit { depth, probes } => HIT + (depth * FIRST + probes),
+        Pixel::Miss { probes } => MISS + probes,
+    }
+}
+
+/// Writes a word at the byte `at`, the least significant byte first.
+fn put(out: &mut [u8], at: usize, word: u32)
+    requires { ⌜ at + 4 ≤ length (now out) ⌝ }
+    ensures { λ _. ⌜ now (out .exit) ≡ paste (now (out .entry)) at (four word) 4 ⌝ }
+{
+    out[at..at + 4].copy_from_slice(&word.to_le_bytes());
+}
+
+/// Writes the image: its start, far, and a word for each pixel.
+fn put_image(pixels: &[Pixel], view: &View, out: &mut [u8])
+    requires room { ⌜ (length (now pixels) ≤ 4096) × (4 * (2 + length (now pixels)) ≤ length (now out)) ⌝ }
+    requires sound { ⌜ all-sane (now view .far) (now pixels) ≡ true ⌝ }
+    ensures { λ _. ⌜ now (out .exit) ≡ image (now (view .entry)) (now (pixels .entry)) ++ drop (4 * (2 + length (now (pixels .entry)))) (now (out .entry)) ⌝ }
+{
+    put(out, 0, IMAGE + (view.width * FIRST + view.height));
+    put(out, 4, NUMBER + view.far);
+    for k in 0..pixels.len() {
+        put(out, 8 + 4 * k, word_of(pixels[k]));
+    }
+}
