@@ -5,11 +5,12 @@ use mathlib.Core.Bool.{Bool, true, false, cond}
 use mathlib.Core.List.{List, [], _∷_, _++_}
 use mathlib.Core.Logic.{_⊎_, inl, inr}
 use native.Mathlib.Omega.{arith}
+use mir.Val.{boolByte}
 use native.Mathlib.Nat.{mul-le-mul}
 use lib.Dec.{leb, ltb, eqb}
 use lib.ListN.{length, take, drop, set, getD, replicate, length-replicate, length-append, length-drop, take-append-drop}
 use lib.Seq.{take-set-lt, set-append-left}
-use Rattle.std.proofs.shelf.Lists.{take-at, drop-at, length-take-le, getD-take, getD-default, set-getD}
+use Rattle.std.proofs.shelf.Lists.{take-at, drop-at, length-take-le, getD-take, getD-default, getD-set-same}
 use Rattle.std.proofs.shelf.Tests.{cond-true, cond-false, cond-both, le-leb, lt-leb, lt-ltb, le-ltb, eq-eqb, ne-eqb}
 use Rattle.std.specs.declared.result.Result.{Result}
 use Rattle.std.specs.declared.result.Result.the-variants.{Ok, Err}
@@ -168,3 +169,19 @@ new-front n rs old e = ap (take n) e ∙ take-at (replicate n fresh) (drop n old
 
 pub new-sound : (far n : ℕ) (rs old : List Pixel) → rs ≡ replicate n fresh ++ drop n old → all-sane far (take n rs) ≡ true
 new-sound far n rs old e = ap (all-sane far) (new-front n rs old e) ∙ sane-fresh far n
+
+-- what a plate always has, after its pixels were written
+pub front-room : (n : ℕ) (ps rs : List Pixel) → length ps ≡ n → n ≤ length (ps ++ drop n rs)
+front-room n ps rs e = omega (arith, length-append ps (drop n rs))
+
+pub front-sound : (far n : ℕ) (ps rs : List Pixel) → length ps ≡ n → all-sane far ps ≡ true → all-sane far (take n (ps ++ drop n rs)) ≡ true
+front-sound far n ps rs e s = ap (all-sane far) (take-at ps (drop n rs) n e) ∙ s
+
+-- a flag as a number
+pub flag : (b : Bool) → boolByte b ≡ cond b 1 0
+flag true = refl
+flag false = refl
+
+-- a list that differs from another at one place has what it reads there
+pub touched-set : (rs qs : List Pixel) (k : ℕ) (p : Pixel) → k < length rs → qs ≡ set rs k p → qs ≡ set rs k (getD qs k fresh)
+touched-set rs qs k p h e = e ∙ ap (set rs k) (sym (ap (λ (qs : List Pixel). getD qs k fresh) e ∙ getD-set-same rs k p fresh h))

@@ -9,3 +9,4 @@ pub mod Worked
 pub mod Upshot
 pub mod Onward
 pub mod Calls
+pub mod Opens

@@ -20,6 +20,8 @@ use march::pixel::Pixel;
 use march::view::View;
 use solid::Solid;
 
+pub mod calls;
+
 /// A plate over the records that its user lends. It has one pixel for each of its view's, row by
 /// row; the records past the last pixel are never written.
 #[derive(Drop)]
@@ -100,7 +102,7 @@ fn renew(records: &mut [Pixel], n: usize)
     requires { ⌜ n ≤ length (now records) ⌝ }
     ensures { λ _. ⌜ now (records .exit) ≡ replicate n fresh ++ drop n (now (records .entry)) ⌝ }
 {
-    records[0..n].fill(Pixel::Marching { t: 0, probes: 0 });
+    records[..n].fill(Pixel::Marching { t: 0, probes: 0 });
 }
 
 /// Steps the pixels row by row, each until it settles, and stops the moment the budget is spent.
