@@ -5,7 +5,6 @@ use mathlib.Core.Bool.{Bool, true, false, cond}
 use mathlib.Core.List.{List, [], _∷_, _++_}
 use mathlib.Core.Logic.{_⊎_, inl, inr}
 use native.Mathlib.Omega.{arith}
-use mir.Val.{boolByte}
 use native.Mathlib.Nat.{mul-le-mul}
 use lib.Dec.{leb, ltb, eqb}
 use lib.ListN.{length, take, drop, set, getD, replicate, length-replicate, length-append, length-drop, take-append-drop}
@@ -176,11 +175,6 @@ front-room n ps rs e = omega (arith, length-append ps (drop n rs))
 
 pub front-sound : (far n : ℕ) (ps rs : List Pixel) → length ps ≡ n → all-sane far ps ≡ true → all-sane far (take n (ps ++ drop n rs)) ≡ true
 front-sound far n ps rs e s = ap (all-sane far) (take-at ps (drop n rs) n e) ∙ s
-
--- a flag as a number
-pub flag : (b : Bool) → boolByte b ≡ cond b 1 0
-flag true = refl
-flag false = refl
 
 -- a list that differs from another at one place has what it reads there
 pub touched-set : (rs qs : List Pixel) (k : ℕ) (p : Pixel) → k < length rs → qs ≡ set rs k p → qs ≡ set rs k (getD qs k fresh)

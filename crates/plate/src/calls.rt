@@ -20,7 +20,6 @@ use solid::Solid;
 use super::Plate;
 use super::WORKING;
 use super::count_marching;
-use super::is_marching;
 use super::put_image;
 use super::renew;
 use super::settle;
@@ -99,10 +98,9 @@ impl<'a> Plate<'a> {
         }
         let k = j as usize * view.width as usize + i as usize;
         let records = std::mem::take(&mut self.records);
-        let spent = settle(records, k, &view, i, j, solid, budget);
-        let left = u32::from(is_marching(records[k]));
+        let counts = settle(records, k, &view, i, j, solid, budget);
         self.records = records;
-        Ok((spent, left))
+        Ok(counts)
     }
 
     /// The state of one pixel.

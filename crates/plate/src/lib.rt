@@ -132,26 +132,28 @@ fn sweep_all<S: Solid>(pixels: &mut [Pixel], view: &View, solid: &S, budget: u32
     spent
 }
 
-/// Steps pixel (i, j), whose record is at k, until it settles or the budget is spent. How much was spent.
-fn settle<S: Solid>(records: &mut [Pixel], k: usize, view: &View, i: u32, j: u32, solid: &S, budget: u32) -> u32
+/// Steps pixel (i, j), whose record is at k, until it settles or the budget is spent. How much was
+/// spent, and 1 where the pixel still marches, else 0.
+fn settle<S: Solid>(records: &mut [Pixel], k: usize, view: &View, i: u32, j: u32, solid: &S, budget: u32) -> (u32, u32)
     requires there { ⌜ k < length (now records) ⌝ }
     requires within { ⌜ (i < now view .width) × (j < now view .height) ⌝ }
     requires reaches { ⌜ 32767 ≤ S·Solid .body (now solid) .reach ⌝ }
     requires sound { ⌜ sane (now view .far) (getD (now records) k fresh) ≡ true ⌝ }
     ensures value { λ _. ⌜ now (records .exit) ≡ set (now (records .entry)) k (settled (clear-at (now (view .entry)) (S·Solid .body (now (solid .entry))) i j) (now (view .entry) .far) budget (getD (now (records .entry)) k fresh) .0) ⌝ }
-    ensures spent { λ r. ⌜ r ≡ budget - settled (clear-at (now (view .entry)) (S·Solid .body (now (solid .entry))) i j) (now (view .entry) .far) budget (getD (now (records .entry)) k fresh) .1 ⌝ }
+    ensures spent { λ r. ⌜ r .0 ≡ budget - settled (clear-at (now (view .entry)) (S·Solid .body (now (solid .entry))) i j) (now (view .entry) .far) budget (getD (now (records .entry)) k fresh) .1 ⌝ }
+    ensures left { λ r. ⌜ r .1 ≡ cond (marches (getD (now (records .exit)) k fresh)) 1 0 ⌝ }
     ensures sound { λ _. ⌜ sane (now (view .entry) .far) (getD (now (records .exit)) k fresh) ≡ true ⌝ }
 {
     let start = start_of(view, i, j);
     let mut spent = 0;
     while let Pixel::Marching { t, probes } = records[k] {
         if spent == budget {
-            break;
+            return (spent, 1);
         }
         records[k] = step(solid, view, start, t, probes);
         spent += 1;
     }
-    spent
+    (spent, 0)
 }
 
 /// Bits 31..28 of a word are its kind.

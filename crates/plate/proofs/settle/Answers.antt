@@ -1,10 +1,11 @@
 use mathlib.Core.Path.{_≡_, sym, ap, subst⁻¹, _∙_}
-use mathlib.Core.Bool.{true}
+use mathlib.Core.Bool.{Bool, true, cond}
 use native.Mathlib.Omega.{arith}
 use lib.ListN.{length, getD, set, length-set}
 use Rattle.std.proofs.shelf.Lists.{getD-set-same}
 use Rattle.lattice.specs.Space.{In}
-use Rattle.march.specs.March.{fresh, sane}
+use Rattle.march.specs.declared.pixel.Pixel.{Pixel}
+use Rattle.march.specs.March.{fresh, sane, marches}
 use Rattle.march.proofs.Space.{start-in}
 use Rattle.march.proofs.Ray.{sane-parts}
 use Rattle.log.specs.Log.{clear-at}
@@ -42,12 +43,12 @@ returns-then-spent-budget g c =
     let v = c .args .view .now in
     let clear = clear-at v (g .S·Solid .body (c .args .solid .now)) (c .args .i) (c .args .j) in
     let o = touch-spent clear (v .far) (c .args .k) (c .loop-records .spent) (c .args .budget) (c .loop-records .records) _ (c .if-spent-budget .taken) (c .loop-records .inv .3) in
-    record { value = o .0; spent = o .1; sound = c .loop-records .inv .2 }
+    record { value = o .0; spent = o .1; left = sym (ap (λ (p : Pixel). cond (marches p) 1 0) (c .in-Marching .is)); sound = c .loop-records .inv .2 }
 
-pub returns-in-rest : need.returns-in-rest
-returns-in-rest g c =
+pub returns : need.returns
+returns g c =
     let v = c .args .view .now in
     let clear = clear-at v (g .S·Solid .body (c .args .solid .now)) (c .args .i) (c .args .j) in
     let done = not-marching (getD (c .loop-records .records) (c .args .k) fresh) (c .in-rest .not-Marching) in
     let o = touch-settled clear (v .far) (c .args .k) (c .loop-records .spent) (c .args .budget) (c .loop-records .records) _ done (c .loop-records .inv .0) (c .loop-records .inv .3) in
-    record { value = o .0; spent = o .1; sound = c .loop-records .inv .2 }
+    record { value = o .0; spent = o .1; left = sym (ap (λ (b : Bool). cond b 1 0) done); sound = c .loop-records .inv .2 }

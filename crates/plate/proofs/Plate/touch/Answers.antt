@@ -2,7 +2,7 @@ use borrow.Author.Needs.{needs}
 use Prim.Native.Nat.{_≤_, _<_}
 use mathlib.Core.Logic.{inl, inr, ⊎-elim}
 use mathlib.Core.Path.{_≡_, refl, sym, ap, subst⁻¹, _∙_}
-use mathlib.Core.Bool.{Bool, true, cond}
+use mathlib.Core.Bool.{true, cond}
 use mathlib.Core.List.{List}
 use native.Mathlib.Omega.{arith}
 use denote.Ref.{RefT}
@@ -14,7 +14,7 @@ use Rattle.log.specs.Sweep.{all-sane}
 use Rattle.log.specs.Log.{touching, area, place, done, clear-at}
 use Rattle.log.proofs.Place.{place-in}
 use Rattle.log.proofs.Sanity.{sound-at, sound-set}
-use Rattle.log.proofs.Calls.{promise, touch-absent, touch-shallow, touch-done, touched-set, flag}
+use Rattle.log.proofs.Calls.{promise, touch-absent, touch-shallow, touch-done, touched-set}
 use Rattle.plate.proofs.Plate.touch.Needs as need
 
 pub returns-then-i-view : need.returns-then-i-view
@@ -33,8 +33,8 @@ returns-then-reach-lt-WORKING g c =
     let l = touch-shallow (p .view) rs (c .args .i) (c .args .j) b (c .args .budget) (c .if-i-view .left) (c .if-j-view .left) (omega arith) in
     record { line = l; promise = promise (p .view) rs rs (touching (c .args .i) (c .args .j) b (c .args .budget)) _ (p .room) l; view = refl; lender = refl }
 
-pub settle-spent-requires : need.settle-spent-requires
-settle-spent-requires g c κs =
+pub settle-counts-requires : need.settle-counts-requires
+settle-counts-requires g c κs =
     let p = c .args .self .now in
     let v = p .view in
     let k = place v (c .args .i) (c .args .j) in
@@ -47,12 +47,6 @@ settle-spent-requires g c κs =
       ; reaches = omega arith
       ; sound = ap (λ (rs : List Pixel). sane (v .far) (getD rs k fresh)) same ∙ sound-at (v .far) (area v) k (p .records .now) (p .sound) inside (p .room) }
 
-pub slice-copy-out·is-marching : need.slice-copy-out·is-marching
-slice-copy-out·is-marching g c =
-    let p = c .args .self .now in
-    let same = ap (λ (r : RefT (List Pixel)). length (r .now)) (c .take-records .ensures .value) in
-    omega (arith, p .room, place-in (p .view) (c .args .i) (c .args .j) (c .if-i-view .left) (c .if-j-view .left), c .settle-spent .kept .records)
-
 pub ghost-self : need.ghost-self
 ghost-self g c =
     let p = c .args .self .now in
@@ -61,12 +55,12 @@ ghost-self g c =
     let rs = c .take-records .result .now in
     let same = ap (λ (r : RefT (List Pixel)). r .now) (c .take-records .ensures .value) in
     let inside = place-in v (c .args .i) (c .args .j) (c .if-i-view .left) (c .if-j-view .left) in
-    let qs = c .settle-spent .last .records in
+    let qs = c .settle-counts .last .records in
     let q = getD qs k fresh in
-    let is : qs ≡ set rs k q = touched-set rs qs k _ (omega (arith, p .room, ap length same)) (c .settle-spent .ensures .value) in
+    let is : qs ≡ set rs k q = touched-set rs qs k _ (omega (arith, p .room, ap length same)) (c .settle-counts .ensures .value) in
     let sound : all-sane (v .far) (take (area v) rs) ≡ true = ap (λ (rs : List Pixel). all-sane (v .far) (take (area v) rs)) same ∙ p .sound in
-    ( omega (arith, p .room, ap length same, c .settle-spent .kept .records)
-    , (ap (λ (qs : List Pixel). all-sane (v .far) (take (area v) qs)) is ∙ sound-set (v .far) (area v) k rs q sound inside (c .settle-spent .ensures .sound), tt) )
+    ( omega (arith, p .room, ap length same, c .settle-counts .kept .records)
+    , (ap (λ (qs : List Pixel). all-sane (v .far) (take (area v) qs)) is ∙ sound-set (v .far) (area v) k rs q sound inside (c .settle-counts .ensures .sound), tt) )
 
 pub returns : need.returns
 returns g c =
@@ -80,10 +74,10 @@ returns g c =
     let same = ap (λ (r : RefT (List Pixel)). r .now) (c .take-records .ensures .value) in
     let inside = place-in v i j (c .if-i-view .left) (c .if-j-view .left) in
     let room : area v ≤ length rs = omega (arith, p .room, ap length same) in
-    let qs = c .settle-spent .last .records in
+    let qs = c .settle-counts .last .records in
     let s = settled (clear-at v b i j) (v .far) (c .args .budget) (getD rs k fresh) in
-    let new : getD qs k fresh ≡ s .0 = ap (λ (qs : List Pixel). getD qs k fresh) (c .settle-spent .ensures .value) ∙ getD-set-same rs k (s .0) fresh (omega arith) in
-    let left = c .from-left .ensures ∙ flag (c .is-marching .result) ∙ ap (λ (b : Bool). cond b 1 0) (c .is-marching .ensures ∙ ap marches new) in
-    let l = touch-done v rs qs i j b (c .args .budget) (c .settle-spent .result) (c .from-left .result) room (c .if-i-view .left) (c .if-j-view .left) (omega arith) (c .settle-spent .ensures .value) (c .settle-spent .ensures .spent) left
+    let new : getD qs k fresh ≡ s .0 = ap (λ (qs : List Pixel). getD qs k fresh) (c .settle-counts .ensures .value) ∙ getD-set-same rs k (s .0) fresh (omega arith) in
+    let left = c .settle-counts .ensures .left ∙ ap (λ (p : Pixel). cond (marches p) 1 0) new in
+    let l = touch-done v rs qs i j b (c .args .budget) (c .settle-counts .result .0) (c .settle-counts .result .1) room (c .if-i-view .left) (c .if-j-view .left) (omega arith) (c .settle-counts .ensures .value) (c .settle-counts .ensures .spent) left
         ∙ ap (λ (rs : List Pixel). done v rs (touching i j b (c .args .budget))) same in
     record { line = l; promise = promise v (p .records .now) qs (touching i j b (c .args .budget)) _ (p .room) l; view = refl; lender = search needs }
