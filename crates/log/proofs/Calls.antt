@@ -10,7 +10,7 @@ use lib.Dec.{leb, ltb, eqb}
 use lib.ListN.{length, take, drop, set, getD, replicate, length-replicate, length-append, length-drop, take-append-drop}
 use lib.Seq.{take-set-lt, set-append-left}
 use Rattle.std.proofs.shelf.Lists.{take-at, drop-at, length-take-le, getD-take, getD-default, getD-set-same}
-use Rattle.std.proofs.shelf.Tests.{cond-true, cond-false, cond-both, le-leb, lt-leb, lt-ltb, le-ltb, eq-eqb, ne-eqb}
+use Rattle.std.proofs.shelf.Tests.{cond-true, cond-false, cond-both, le-leb, lt-leb, eq-eqb, ne-eqb}
 use Rattle.std.specs.declared.result.Result.{Result}
 use Rattle.std.specs.declared.result.Result.the-variants.{Ok, Err}
 use Rattle.solid.specs.Body.{Body}
@@ -18,15 +18,17 @@ use Rattle.march.specs.declared.pixel.Pixel.{Pixel}
 use Rattle.march.specs.declared.view.View.{View}
 use Rattle.march.specs.declared.view.ViewFault.{ViewFault}
 use Rattle.march.specs.March.{fresh, settled, marches}
+use Rattle.log.specs.declared.fault.PlateFault.{PlateFault}
 use Rattle.log.specs.declared.fault.PlateFault.the-variants.{NoPixel, Shallow, StillMarching, NoRoom}
 use Rattle.log.specs.Sweep.{past, swept, marching, all-sane}
-use Rattle.log.specs.Log.{Call, Answer, sweeping, touching, reading, writing, counted, told, wrote, refused, line, done, left-in, written, image, along-ray, clear-at, area, place, has, deep, pixels, stands}
+use Rattle.log.specs.Log.{Call, Answer, sweeping, touching, reading, writing, counted, told, wrote, refused, line, done, place-answer, counts-of, state-of, left-in, written, image, along-ray, clear-at, area, place, has, deep, pixels, stands}
 use Rattle.log.specs.Law.{Promise}
 use Rattle.log.proofs.Lift.{did}
 use Rattle.log.proofs.Sums.{swept-length, line-length}
 use Rattle.log.proofs.Place.{place-in, from-pixel}
 use Rattle.log.proofs.Sanity.{sane-fresh}
 use Rattle.log.proofs.Bytes.{length-image}
+use Rattle.log.proofs.Lines.{has-parts}
 use Rattle.log.proofs.Upshot.{promised}
 
 -- the size of a view
@@ -75,52 +77,74 @@ pub long-swept : (v : View) (rs ps : List Pixel) (b : Body) (budget : ℕ) → a
 long-swept v rs ps b budget room e = ap length e ∙ swept-length (along-ray v b) (v .far) budget 0 (pixels v rs) ∙ long-pixels v rs room
 
 -- the pixel (i, j)
-pub present : (v : View) (i j : ℕ) → i < v .width → j < v .height → has v i j ≡ true
-present v i j a b = cond-true (ltb i (v .width)) (ltb j (v .height)) false (lt-ltb i (v .width) a) ∙ lt-ltb j (v .height) b
+pub record Placed (v : View) (i j k : ℕ) : Type 0 where
+  pub is : k ≡ place v i j
+  pub has-it : has v i j ≡ true
+  pub within : (i < v .width) × (j < v .height)
+  pub inside : k < area v
 
-absent : (v : View) (i j : ℕ) → (v .width ≤ i) ⊎ (v .height ≤ j) → has v i j ≡ false
-absent v i j (inl a) = cond-false (ltb i (v .width)) (ltb j (v .height)) false (le-ltb i (v .width) a)
-absent v i j (inr b) = cond-both (ltb i (v .width)) (ltb j (v .height)) false (λ x. x ≡ false) (λ _. le-ltb j (v .height) b) (λ _. refl)
+pub placed : (v : View) (i j k : ℕ) → Ok k ≡ place-answer v i j → Placed v i j k
+placed v i j k = cond-both (has v i j) (Ok (place v i j)) (Err NoPixel) (λ (r : Result ℕ PlateFault). Ok k ≡ r → Placed v i j k)
+  (λ h e.
+    let w = has-parts v i j h in
+    let is : k ≡ place v i j = cc in
+    record { is = is; has-it = h; within = w; inside = omega (arith, place-in v i j (w .0) (w .1)) })
+  (λ _ e. let z : _≡_ {A = ℕ} 0 1 = cc in absurd (omega arith))
+
+unplaced : (v : View) (i j : ℕ) (f : PlateFault) → Err f ≡ place-answer v i j → (has v i j ≡ false) × (f ≡ NoPixel)
+unplaced v i j f = cond-both (has v i j) (Ok (place v i j)) (Err NoPixel) (λ (r : Result ℕ PlateFault). Err f ≡ r → (has v i j ≡ false) × (f ≡ NoPixel))
+  (λ _ e. let z : _≡_ {A = ℕ} 0 1 = cc in absurd (omega arith))
+  (λ h e. (h, cc))
 
 -- what the code reads at a place of the records is the pixel there
 at-place : (n k : ℕ) (rs : List Pixel) → k < n → n ≤ length rs → getD rs k fresh ≡ getD (take n rs) k past
 at-place n k rs h l = getD-default rs k fresh past (omega arith) ∙ sym (getD-take n rs k past h)
 
 -- read
-pub read-absent : (v : View) (rs : List Pixel) (i j : ℕ) → (v .width ≤ i) ⊎ (v .height ≤ j) → _≡_ {A = Answer × List Pixel} (refused NoPixel, rs) (done v rs (reading i j))
-read-absent v rs i j h = quiet v rs (reading i j) (refused NoPixel) (cond-false (has v i j) _ _ (absent v i j h))
+pub read-absent : (v : View) (rs : List Pixel) (i j : ℕ) (f g : PlateFault) (r : Result Pixel PlateFault) → Err f ≡ place-answer v i j → r ≡ Err g → g ≡ f → _≡_ {A = Answer × List Pixel} (state-of r, rs) (done v rs (reading i j))
+read-absent v rs i j f g r e is was =
+    let h = unplaced v i j f e in
+    ap (λ (r : Result Pixel PlateFault). (state-of r, rs)) is ∙ ap (λ (f : PlateFault). (refused f, rs)) (was ∙ h .1) ∙ quiet v rs (reading i j) (refused NoPixel) (cond-false (has v i j) _ _ (h .0))
 
-pub read-done : (v : View) (rs : List Pixel) (i j : ℕ) → area v ≤ length rs → i < v .width → j < v .height → _≡_ {A = Answer × List Pixel} (told (getD rs (place v i j) fresh), rs) (done v rs (reading i j))
-read-done v rs i j room a b =
-    quiet v rs (reading i j) (told (getD rs (place v i j) fresh))
-      (cond-true (has v i j) _ _ (present v i j a b) ∙ ap (λ (p : Pixel). (told p, pixels v rs)) (sym (at-place (area v) (place v i j) rs (place-in v i j a b) room)))
+pub read-done : (v : View) (rs : List Pixel) (i j k : ℕ) → area v ≤ length rs → Placed v i j k → _≡_ {A = Answer × List Pixel} (told (getD rs k fresh), rs) (done v rs (reading i j))
+read-done v rs i j k room p =
+    quiet v rs (reading i j) (told (getD rs k fresh))
+      (cond-true (has v i j) _ _ (p .has-it)
+        ∙ ap (λ (k : ℕ). (told (getD (pixels v rs) k past), pixels v rs)) (sym (p .is)) ∙ ap (λ (q : Pixel). (told q, pixels v rs)) (sym (at-place (area v) k rs (p .inside) room)))
 
 -- touch
-pub touch-absent : (v : View) (rs : List Pixel) (i j : ℕ) (b : Body) (budget : ℕ) → (v .width ≤ i) ⊎ (v .height ≤ j) → _≡_ {A = Answer × List Pixel} (refused NoPixel, rs) (done v rs (touching i j b budget))
-touch-absent v rs i j b budget h = quiet v rs (touching i j b budget) (refused NoPixel) (cond-false (has v i j) _ _ (absent v i j h))
+pub touch-absent : (v : View) (rs : List Pixel) (i j : ℕ) (b : Body) (budget : ℕ) (f g : PlateFault) (r : Result (ℕ × ℕ) PlateFault) → Err f ≡ place-answer v i j → r ≡ Err g → g ≡ f → _≡_ {A = Answer × List Pixel} (counts-of r, rs) (done v rs (touching i j b budget))
+touch-absent v rs i j b budget f g r e is was =
+    let h = unplaced v i j f e in
+    ap (λ (r : Result (ℕ × ℕ) PlateFault). (counts-of r, rs)) is ∙ ap (λ (f : PlateFault). (refused f, rs)) (was ∙ h .1) ∙ quiet v rs (touching i j b budget) (refused NoPixel) (cond-false (has v i j) _ _ (h .0))
 
-pub touch-shallow : (v : View) (rs : List Pixel) (i j : ℕ) (b : Body) (budget : ℕ) → i < v .width → j < v .height → b .reach < 32767 → _≡_ {A = Answer × List Pixel} (refused Shallow, rs) (done v rs (touching i j b budget))
-touch-shallow v rs i j b budget hi hj h =
-    quiet v rs (touching i j b budget) (refused Shallow) (cond-true (has v i j) _ _ (present v i j hi hj) ∙ cond-false (deep b) _ _ (lt-leb 32767 (b .reach) h))
+pub touch-shallow : (v : View) (rs : List Pixel) (i j k : ℕ) (b : Body) (budget : ℕ) → Placed v i j k → b .reach < 32767 → _≡_ {A = Answer × List Pixel} (refused Shallow, rs) (done v rs (touching i j b budget))
+touch-shallow v rs i j k b budget p h =
+    quiet v rs (touching i j b budget) (refused Shallow) (cond-true (has v i j) _ _ (p .has-it) ∙ cond-false (deep b) _ _ (lt-leb 32767 (b .reach) h))
 
-pub touch-done : (v : View) (rs qs : List Pixel) (i j : ℕ) (b : Body) (budget spent left : ℕ) → area v ≤ length rs → i < v .width → j < v .height → 32767 ≤ b .reach
-    → let s = settled (clear-at v b i j) (v .far) budget (getD rs (place v i j) fresh) in qs ≡ set rs (place v i j) (s .0) → spent ≡ budget - s .1 → left ≡ cond (marches (s .0)) 1 0
+-- the pixel's state and what is left of the budget, as the code has them from the record at k
+abbrev Touched : View → List Pixel → (i j k : ℕ) → Body → ℕ → Pixel × ℕ
+Touched v rs i j k b budget = settled (clear-at v b i j) (v .far) budget (getD rs k fresh)
+
+pub touch-done : (v : View) (rs qs : List Pixel) (i j k : ℕ) (b : Body) (budget spent left : ℕ) → area v ≤ length rs → Placed v i j k → 32767 ≤ b .reach
+    → qs ≡ set rs k (Touched v rs i j k b budget .0) → spent ≡ budget - Touched v rs i j k b budget .1 → left ≡ cond (marches (getD qs k fresh)) 1 0
     → _≡_ {A = Answer × List Pixel} (counted spent left, qs) (done v rs (touching i j b budget))
-touch-done v rs qs i j b budget spent left room hi hj h e f m =
-    let k = place v i j in
+touch-done v rs qs i j k b budget spent left room p h e f m =
     let ps = pixels v rs in
-    let inside : k < area v = place-in v i j hi hj in
-    let s = settled (clear-at v b i j) (v .far) budget (getD rs k fresh) in
-    let given : counted spent left ≡ counted (budget - s .1) (cond (marches (s .0)) 1 0) = ap (λ (n : ℕ). counted n left) f ∙ ap (counted (budget - s .1)) m in
+    let s = Touched v rs i j k b budget in
+    let new : getD qs k fresh ≡ s .0 = ap (λ (qs : List Pixel). getD qs k fresh) e ∙ getD-set-same rs k (s .0) fresh (omega (arith, p .inside)) in
+    let given : counted spent left ≡ counted (budget - s .1) (cond (marches (s .0)) 1 0)
+        = ap (λ (n : ℕ). counted n left) f ∙ ap (counted (budget - s .1)) (m ∙ ap (λ (q : Pixel). cond (marches q) 1 0) new) in
     let whole : qs ≡ set ps k (s .0) ++ drop (area v) rs
-        = e ∙ ap (λ (rs : List Pixel). set rs k (s .0)) (sym (take-append-drop (area v) rs)) ∙ set-append-left ps (drop (area v) rs) k (s .0) (omega (arith, long-pixels v rs room)) in
-    let is : s ≡ settled (along-ray v b k) (v .far) budget (getD ps k past)
-        = from-pixel (λ x y. s ≡ settled (clear-at v b x y) (v .far) budget (getD rs k fresh)) v i j hi refl
-          ∙ ap (settled (along-ray v b k) (v .far) budget) (at-place (area v) k rs inside room) in
+        = e ∙ ap (λ (rs : List Pixel). set rs k (s .0)) (sym (take-append-drop (area v) rs)) ∙ set-append-left ps (drop (area v) rs) k (s .0) (omega (arith, p .inside, long-pixels v rs room)) in
+    let is : s ≡ settled (along-ray v b (place v i j)) (v .far) budget (getD ps k past)
+        = from-pixel (λ x y. s ≡ settled (clear-at v b x y) (v .far) budget (getD rs k fresh)) v i j (p .within .0) refl
+          ∙ ap (settled (along-ray v b (place v i j)) (v .far) budget) (at-place (area v) k rs (p .inside) room) in
     ap (λ (a : Answer). (a, qs)) given
     ∙ ap (λ (qs : List Pixel). (counted (budget - s .1) (cond (marches (s .0)) 1 0), qs)) whole
     ∙ ap (λ (s : Pixel × ℕ). (counted (budget - s .1) (cond (marches (s .0)) 1 0), set ps k (s .0) ++ drop (area v) rs)) is
-    ∙ sym (ap (λ (l : Answer × List Pixel). (l .0, l .1 ++ drop (area v) rs)) (cond-true (has v i j) _ _ (present v i j hi hj) ∙ cond-true (deep b) _ _ (le-leb 32767 (b .reach) h)))
+    ∙ ap (λ (k : ℕ). let s = settled (along-ray v b (place v i j)) (v .far) budget (getD ps k past) in (counted (budget - s .1) (cond (marches (s .0)) 1 0), set ps k (s .0) ++ drop (area v) rs)) (p .is)
+    ∙ sym (ap (λ (l : Answer × List Pixel). (l .0, l .1 ++ drop (area v) rs)) (cond-true (has v i j) _ _ (p .has-it) ∙ cond-true (deep b) _ _ (le-leb 32767 (b .reach) h)))
 
 -- write
 pub write-line : (v : View) (rs : List Pixel) (room : ℕ) (l : Answer × List Pixel) → l ≡ line v (pixels v rs) (writing room) → l .1 ≡ pixels v rs → _≡_ {A = Answer × List Pixel} (l .0, rs) (done v rs (writing room))

@@ -47,6 +47,10 @@ place v i j = j * v .width + i
 abbrev pub has : View → (i j : ℕ) → Bool
 has v i j = cond (ltb i (v .width)) (ltb j (v .height)) false
 
+-- the place of a pixel, or that there is no such pixel
+abbrev pub place-answer : View → (i j : ℕ) → Result ℕ PlateFault
+place-answer v i j = cond (has v i j) (Ok (place v i j)) (Err NoPixel)
+
 -- the clearance along the ray of pixel (i, j), and along that of the pixel at place k
 abbrev pub clear-at : View → Body → (i j t : ℕ) → ℕ
 clear-at v b i j t = b .clear (point v i j t)

@@ -20,6 +20,7 @@ use solid::Solid;
 use super::Plate;
 use super::WORKING;
 use super::count_marching;
+use super::place_of;
 use super::put_image;
 use super::renew;
 use super::settle;
@@ -90,13 +91,10 @@ impl<'a> Plate<'a> {
         ensures lender { λ _. ⌜ name (now (self .exit) .records) ≡ name (now (self .entry) .records) ⌝ }
     {
         let view = self.view;
-        if i >= view.width || j >= view.height {
-            return Err(PlateFault::NoPixel);
-        }
+        let k = place_of(&view, i, j)?;
         if solid.reach() < WORKING {
             return Err(PlateFault::Shallow);
         }
-        let k = j as usize * view.width as usize + i as usize;
         let records = std::mem::take(&mut self.records);
         let counts = settle(records, k, &view, i, j, solid, budget);
         self.records = records;
@@ -108,11 +106,7 @@ impl<'a> Plate<'a> {
         ensures line { λ r. ⌜ (state-of r, now (now (self .entry) .records)) ≡ done (now (self .entry) .view) (now (now (self .entry) .records)) (reading i j) ⌝ }
         ensures promise { λ _. ⌜ Promise (now (self .entry) .view) (now (now (self .entry) .records)) (now (now (self .entry) .records)) (reading i j) ⌝ }
     {
-        let view = self.view;
-        if i >= view.width || j >= view.height {
-            return Err(PlateFault::NoPixel);
-        }
-        let k = j as usize * view.width as usize + i as usize;
+        let k = place_of(&self.view, i, j)?;
         Ok(self.records[k])
     }
 

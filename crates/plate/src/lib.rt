@@ -13,9 +13,10 @@ ghost use Rattle.march.specs.View.{along, start};
 ghost use Rattle.march.specs.March.{fresh, sane, marches, stepped, settled};
 ghost use Rattle.words.specs.Words.{four};
 ghost use Rattle.log.specs.Sweep.{all-sane, marching, swept};
-ghost use Rattle.log.specs.Log.{area, place, clear-at, along-ray, word, image};
+ghost use Rattle.log.specs.Log.{area, place-answer, clear-at, along-ray, word, image};
 use lattice::Point;
 use lattice::direction::Direction;
+use log::fault::PlateFault;
 use march::pixel::Pixel;
 use march::view::View;
 use solid::Solid;
@@ -72,6 +73,16 @@ fn step<S: Solid>(solid: &S, view: &View, start: Point, t: u32, probes: u32) -> 
         Ok(c) => Pixel::Marching { t: t + c, probes: probes + 1 },
         Err(_) => Pixel::Marching { t, probes },
     }
+}
+
+/// The place of pixel (i, j) among the pixels, row by row.
+fn place_of(view: &View, i: u32, j: u32) -> Result<usize, PlateFault>
+    ensures { λ r. ⌜ r ≡ place-answer (now (view .entry)) i j ⌝ }
+{
+    if i >= view.width || j >= view.height {
+        return Err(PlateFault::NoPixel);
+    }
+    Ok(j as usize * view.width as usize + i as usize)
 }
 
 fn is_marching(pixel: Pixel) -> bool

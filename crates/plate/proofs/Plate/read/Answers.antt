@@ -1,25 +1,26 @@
-use mathlib.Core.Logic.{inl, inr, ⊎-elim}
 use native.Mathlib.Omega.{arith}
+use Rattle.std.proofs.shelf.Results.{err-from-errBy}
 use Rattle.log.specs.Log.{reading}
-use Rattle.log.proofs.Place.{place-in}
-use Rattle.log.proofs.Calls.{promise, read-absent, read-done}
+use Rattle.log.proofs.Calls.{promise, placed, read-absent, read-done}
 use Rattle.plate.proofs.Plate.read.Needs as need
 
-pub returns-then-i-view : need.returns-then-i-view
-returns-then-i-view c =
+pub returns-in-Break-k : need.returns-in-Break-k
+returns-in-Break-k c =
     let p = c .args .self .now in
     let rs = p .records .now in
-    let l = read-absent (p .view) rs (c .args .i) (c .args .j) (⊎-elim inl (λ h. inr (h .1)) (c .then-i-view .either)) in
+    let r = c .from-residual .result in
+    let e = err-from-errBy r (c .from-residual .ensures .1) in
+    let l = read-absent (p .view) rs (c .args .i) (c .args .j) (c .in-Break-k .field-0 .0) (e .0) r (c .in-Break-k .ensures tt) (e .1) (e .2) in
     record { line = l; promise = promise (p .view) rs rs (reading (c .args .i) (c .args .j)) _ (p .room) l }
 
 pub index-self-k : need.index-self-k
 index-self-k c =
     let p = c .args .self .now in
-    omega (arith, place-in (p .view) (c .args .i) (c .args .j) (c .if-i-view .left) (c .if-j-view .left), p .room)
+    omega (arith, placed (p .view) (c .args .i) (c .args .j) (c .in-Continue-k .k) (c .in-Continue-k .ensures tt) .inside, p .room)
 
 pub returns : need.returns
 returns c =
     let p = c .args .self .now in
     let rs = p .records .now in
-    let l = read-done (p .view) rs (c .args .i) (c .args .j) (p .room) (c .if-i-view .left) (c .if-j-view .left) in
+    let l = read-done (p .view) rs (c .args .i) (c .args .j) (c .in-Continue-k .k) (p .room) (placed (p .view) (c .args .i) (c .args .j) (c .in-Continue-k .k) (c .in-Continue-k .ensures tt)) in
     record { line = l; promise = promise (p .view) rs rs (reading (c .args .i) (c .args .j)) _ (p .room) l }
