@@ -51,7 +51,7 @@ put-more v ps out old next k h i e =
     let x = getD ps k fresh in
     let long : length (head v ++ bytes (take k ps)) ≡ 8 + 4 * k = omega (arith, length-append (head v) (bytes (take k ps)), length-bytes (take k ps), length-take-le k ps (omega arith)) in
     let front : (head v ++ bytes (take k ps)) ++ four (word x) ≡ head v ++ bytes (take (k + 1) ps)
-        = append-assoc (head v) (bytes (take k ps)) (four (word x)) ∙ ap (λ t. head v ++ t) (sym (ap bytes (take-more ps k fresh h) ∙ bytes-append (take k ps) (x ∷ []))) in
+    = append-assoc (head v) (bytes (take k ps)) (four (word x)) ∙ ap (λ t. head v ++ t) (sym (ap bytes (take-more ps k fresh h) ∙ bytes-append (take k ps) (x ∷ []))) in
     let place : 8 + 4 * k + 4 ≡ 8 + 4 * (k + 1) = omega arith in
     e ∙ ap (λ t. paste t (8 + 4 * k) (four (word x)) 4) i ∙ put-next (head v ++ bytes (take k ps)) old (word x) (8 + 4 * k) long
     ∙ ap (λ t. t ++ drop (8 + 4 * k + 4) old) front ∙ ap (λ (n : ℕ). (head v ++ bytes (take (k + 1) ps)) ++ drop n old) place
@@ -63,7 +63,7 @@ put-all v ps out one two old k h l e f i =
     let n : 8 + 4 * k ≡ 4 * (2 + length ps) = omega arith in
     let m : 8 + 4 * k ≡ 4 * k + 8 = omega arith in
     let tail : drop (8 + 4 * k) two ≡ drop (8 + 4 * k) old
-        = ap (λ (z : ℕ). drop z two) (m ∙ swap) ∙ sym (drop-drop (4 * k) 8 two) ∙ ap (drop (4 * k)) (ap (drop 8) (put-head v old one two e f) ∙ drop-at (head v) (drop 8 old) 8 refl) ∙ drop-drop (4 * k) 8 old ∙ sym (ap (λ (z : ℕ). drop z old) (m ∙ swap)) in
+    = ap (λ (z : ℕ). drop z two) (m ∙ swap) ∙ sym (drop-drop (4 * k) 8 two) ∙ ap (drop (4 * k)) (ap (drop 8) (put-head v old one two e f) ∙ drop-at (head v) (drop 8 old) 8 refl) ∙ drop-drop (4 * k) 8 old ∙ sym (ap (λ (z : ℕ). drop z old) (m ∙ swap)) in
     i ∙ ap (λ t. (head v ++ bytes t) ++ drop (8 + 4 * k) two) (take-all k ps h) ∙ ap (λ t. image v ps ++ t) tail ∙ ap (λ (m : ℕ). image v ps ++ drop m old) n
   where
     swap : 4 * k + 8 ≡ 8 + 4 * k
@@ -75,10 +75,10 @@ length-image v ps = omega (arith, length-append (head v) (bytes ps), length-byte
 -- as they are read back
 pub four-back : (w : ℕ) → w < 4294967296 → (w % 256) + 256 * (w / 256 % 256) + 65536 * (w / 65536 % 256) + 16777216 * (w / 16777216 % 256) ≡ w
 four-back w h =
-  let a : w / 65536 ≡ w / 256 / 256 = omega arith in
-  let b : w / 16777216 ≡ w / 65536 / 256 = omega arith in
-  let c : w / 16777216 < 256 = omega arith in
-  from (w / 256) (w / 65536) (w / 16777216) (omega arith) a b c
+    let a : w / 65536 ≡ w / 256 / 256 = omega arith in
+    let b : w / 16777216 ≡ w / 65536 / 256 = omega arith in
+    let c : w / 16777216 < 256 = omega arith in
+    from (w / 256) (w / 65536) (w / 16777216) (omega arith) a b c
   where
     from : (x y z : ℕ) → w ≡ 256 * x + w % 256 → y ≡ x / 256 → z ≡ y / 256 → z < 256 → (w % 256) + 256 * (x % 256) + 65536 * (y % 256) + 16777216 * (z % 256) ≡ w
     from x y z e f g l = omega arith
@@ -88,8 +88,13 @@ at-shift a b c d bs m n e = ap (λ (m : ℕ). getD (a ∷ b ∷ c ∷ d ∷ bs) 
 
 next-word : (a b c d : ℕ) (bs : List ℕ) (k : ℕ) → word-at (a ∷ b ∷ c ∷ d ∷ bs) (suc k) ≡ word-at bs k
 next-word a b c d bs k =
-  omega (arith, at-shift a b c d bs (4 * suc k) (4 * k) (omega arith), at-shift a b c d bs (4 * suc k + 1) (4 * k + 1) (omega arith),
-    at-shift a b c d bs (4 * suc k + 2) (4 * k + 2) (omega arith), at-shift a b c d bs (4 * suc k + 3) (4 * k + 3) (omega arith))
+    omega (
+      arith,
+      at-shift a b c d bs (4 * suc k) (4 * k) (omega arith),
+      at-shift a b c d bs (4 * suc k + 1) (4 * k + 1) (omega arith),
+      at-shift a b c d bs (4 * suc k + 2) (4 * k + 2) (omega arith),
+      at-shift a b c d bs (4 * suc k + 3) (4 * k + 3) (omega arith),
+    )
 
 words-at : (ps : List Pixel) (k : ℕ) → k < length ps → word (getD ps k past) < 4294967296 → word-at (bytes ps) k ≡ word (getD ps k past)
 words-at [] k l h = absurd (omega arith)
@@ -109,25 +114,25 @@ image-far v ps = four-back (number-word (v .far)) (omega (arith, v .close))
 
 pub image-words : (v : View) (ps : List Pixel) (k : ℕ) → k < length ps → sane (v .far) (getD ps k past) ≡ true → word-at (image v ps) (2 + k) ≡ word (getD ps k past)
 image-words v ps k h e =
-  let two : 2 + k ≡ suc (suc k) = omega arith in
-  ap (λ (n : ℕ). word-at (image v ps) n) two
-  ∙ next-word _ _ _ _ (four (number-word (v .far)) ++ bytes ps) (suc k) ∙ next-word _ _ _ _ (bytes ps) k
-  ∙ words-at ps k h (word-small (v .far) (getD ps k past) (v .close) e)
+    let two : 2 + k ≡ suc (suc k) = omega arith in
+    ap (λ (n : ℕ). word-at (image v ps) n) two
+    ∙ next-word _ _ _ _ (four (number-word (v .far)) ++ bytes ps) (suc k) ∙ next-word _ _ _ _ (bytes ps) k
+    ∙ words-at ps k h (word-small (v .far) (getD ps k past) (v .close) e)
 
 -- a settled pixel's word tells its state
 pub state-back : (far : ℕ) (p : Pixel) → far ≤ 4095 → sane far p ≡ true → marches p ≡ false → state (word p) ≡ Some p
 state-back far (Marching t n) h e m = absurd (both-ways true m refl)
 state-back far (Hit d n) h e m =
-  let b = hit-parts far d n e in
-  let w : ℕ = word (Hit d n) in
-  let kind : w / 268435456 ≡ 11 = omega arith in
-  let depth : w / 65536 % 4096 ≡ d = omega arith in
-  let rest : w % 65536 ≡ n = omega arith in
-  cond-true (eqb (w / 268435456) 11) _ _ (eq-eqb (w / 268435456) 11 kind) ∙ ap (λ (x : ℕ). Some (Hit x (w % 65536))) depth ∙ ap (λ (x : ℕ). Some (Hit d x)) rest
+    let b = hit-parts far d n e in
+    let w : ℕ = word (Hit d n) in
+    let kind : w / 268435456 ≡ 11 = omega arith in
+    let depth : w / 65536 % 4096 ≡ d = omega arith in
+    let rest : w % 65536 ≡ n = omega arith in
+    cond-true (eqb (w / 268435456) 11) _ _ (eq-eqb (w / 268435456) 11 kind) ∙ ap (λ (x : ℕ). Some (Hit x (w % 65536))) depth ∙ ap (λ (x : ℕ). Some (Hit d x)) rest
 state-back far (Miss n) h e m =
-  let b = leb-true n (far + 1) e in
-  let w : ℕ = word (Miss n) in
-  let kind : w / 65536 ≡ 49152 = omega arith in
-  let rest : w % 65536 ≡ n = omega arith in
-  cond-false (eqb (w / 268435456) 11) _ _ (ne-eqb (w / 268435456) 11 (λ x. omega arith))
-  ∙ cond-true (eqb (w / 65536) 49152) _ _ (eq-eqb (w / 65536) 49152 kind) ∙ ap (λ (x : ℕ). Some (Miss x)) rest
+    let b = leb-true n (far + 1) e in
+    let w : ℕ = word (Miss n) in
+    let kind : w / 65536 ≡ 49152 = omega arith in
+    let rest : w % 65536 ≡ n = omega arith in
+    cond-false (eqb (w / 268435456) 11) _ _ (ne-eqb (w / 268435456) 11 (λ x. omega arith))
+    ∙ cond-true (eqb (w / 65536) 49152) _ _ (eq-eqb (w / 65536) 49152 kind) ∙ ap (λ (x : ℕ). Some (Miss x)) rest

@@ -85,16 +85,16 @@ pub record Placed (v : View) (i j k : ℕ) : Type 0 where
 
 pub placed : (v : View) (i j k : ℕ) → Ok k ≡ place-answer v i j → Placed v i j k
 placed v i j k = cond-both (has v i j) (Ok (place v i j)) (Err NoPixel) (λ (r : Result ℕ PlateFault). Ok k ≡ r → Placed v i j k)
-  (λ h e.
+    (λ h e.
     let w = has-parts v i j h in
     let is : k ≡ place v i j = cc in
     record { is = is; has-it = h; within = w; inside = omega (arith, place-in v i j (w .0) (w .1)) })
-  (λ _ e. let z : _≡_ {A = ℕ} 0 1 = cc in absurd (omega arith))
+    (λ _ e. let z : _≡_ {A = ℕ} 0 1 = cc in absurd (omega arith))
 
 unplaced : (v : View) (i j : ℕ) (f : PlateFault) → Err f ≡ place-answer v i j → (has v i j ≡ false) × (f ≡ NoPixel)
 unplaced v i j f = cond-both (has v i j) (Ok (place v i j)) (Err NoPixel) (λ (r : Result ℕ PlateFault). Err f ≡ r → (has v i j ≡ false) × (f ≡ NoPixel))
-  (λ _ e. let z : _≡_ {A = ℕ} 0 1 = cc in absurd (omega arith))
-  (λ h e. (h, cc))
+    (λ _ e. let z : _≡_ {A = ℕ} 0 1 = cc in absurd (omega arith))
+    (λ h e. (h, cc))
 
 -- what the code reads at a place of the records is the pixel there
 at-place : (n k : ℕ) (rs : List Pixel) → k < n → n ≤ length rs → getD rs k fresh ≡ getD (take n rs) k past
@@ -109,8 +109,8 @@ read-absent v rs i j f g r e is was =
 pub read-done : (v : View) (rs : List Pixel) (i j k : ℕ) → area v ≤ length rs → Placed v i j k → _≡_ {A = Answer × List Pixel} (told (getD rs k fresh), rs) (done v rs (reading i j))
 read-done v rs i j k room p =
     quiet v rs (reading i j) (told (getD rs k fresh))
-      (cond-true (has v i j) _ _ (p .has-it)
-        ∙ ap (λ (k : ℕ). (told (getD (pixels v rs) k past), pixels v rs)) (sym (p .is)) ∙ ap (λ (q : Pixel). (told q, pixels v rs)) (sym (at-place (area v) k rs (p .inside) room)))
+    (cond-true (has v i j) _ _ (p .has-it)
+    ∙ ap (λ (k : ℕ). (told (getD (pixels v rs) k past), pixels v rs)) (sym (p .is)) ∙ ap (λ (q : Pixel). (told q, pixels v rs)) (sym (at-place (area v) k rs (p .inside) room)))
 
 -- touch
 pub touch-absent : (v : View) (rs : List Pixel) (i j : ℕ) (b : Body) (budget : ℕ) (f g : PlateFault) (r : Result (ℕ × ℕ) PlateFault) → Err f ≡ place-answer v i j → r ≡ Err g → g ≡ f → _≡_ {A = Answer × List Pixel} (counts-of r, rs) (done v rs (touching i j b budget))
@@ -134,12 +134,12 @@ touch-done v rs qs i j k b budget spent left room p h e f m =
     let s = Touched v rs i j k b budget in
     let new : getD qs k fresh ≡ s .0 = ap (λ (qs : List Pixel). getD qs k fresh) e ∙ getD-set-same rs k (s .0) fresh (omega (arith, p .inside)) in
     let given : counted spent left ≡ counted (budget - s .1) (cond (marches (s .0)) 1 0)
-        = ap (λ (n : ℕ). counted n left) f ∙ ap (counted (budget - s .1)) (m ∙ ap (λ (q : Pixel). cond (marches q) 1 0) new) in
+    = ap (λ (n : ℕ). counted n left) f ∙ ap (counted (budget - s .1)) (m ∙ ap (λ (q : Pixel). cond (marches q) 1 0) new) in
     let whole : qs ≡ set ps k (s .0) ++ drop (area v) rs
-        = e ∙ ap (λ (rs : List Pixel). set rs k (s .0)) (sym (take-append-drop (area v) rs)) ∙ set-append-left ps (drop (area v) rs) k (s .0) (omega (arith, p .inside, long-pixels v rs room)) in
+    = e ∙ ap (λ (rs : List Pixel). set rs k (s .0)) (sym (take-append-drop (area v) rs)) ∙ set-append-left ps (drop (area v) rs) k (s .0) (omega (arith, p .inside, long-pixels v rs room)) in
     let is : s ≡ settled (along-ray v b (place v i j)) (v .far) budget (getD ps k past)
-        = from-pixel (λ x y. s ≡ settled (clear-at v b x y) (v .far) budget (getD rs k fresh)) v i j (p .within .0) refl
-          ∙ ap (settled (along-ray v b (place v i j)) (v .far) budget) (at-place (area v) k rs (p .inside) room) in
+    = from-pixel (λ x y. s ≡ settled (clear-at v b x y) (v .far) budget (getD rs k fresh)) v i j (p .within .0) refl
+    ∙ ap (settled (along-ray v b (place v i j)) (v .far) budget) (at-place (area v) k rs (p .inside) room) in
     ap (λ (a : Answer). (a, qs)) given
     ∙ ap (λ (qs : List Pixel). (counted (budget - s .1) (cond (marches (s .0)) 1 0), qs)) whole
     ∙ ap (λ (s : Pixel × ℕ). (counted (budget - s .1) (cond (marches (s .0)) 1 0), set ps k (s .0) ++ drop (area v) rs)) is
@@ -155,9 +155,10 @@ abbrev Wrote : View → List Pixel → List ℕ → Answer → List ℕ → Type
 Wrote v rs old a out = (_≡_ {A = Answer × List ℕ} (a, out) (written v rs old)) × (_≡_ {A = Answer × List Pixel} (a, rs) (done v rs (writing (length old))))
 
 wrote-by : (v : View) (rs : List Pixel) (old : List ℕ) (a : Answer) (out : List ℕ) → line v (pixels v rs) (writing (length old)) ≡ (a, pixels v rs) → out ≡ left-in a old → Wrote v rs old a out
-wrote-by v rs old a out e f =
-    ( ap (λ (bs : List ℕ). (a, bs)) f ∙ ap (λ (l : Answer × List Pixel). (l .0, left-in (l .0) old)) (sym e)
-    , quiet v rs (writing (length old)) a e )
+wrote-by v rs old a out e f = (
+  ap (λ (bs : List ℕ). (a, bs)) f ∙ ap (λ (l : Answer × List Pixel). (l .0, left-in (l .0) old)) (sym e),
+  quiet v rs (writing (length old)) a e,
+)
 
 pub write-early : (v : View) (rs : List Pixel) (old : List ℕ) → 0 < marching (pixels v rs) → Wrote v rs old (refused StillMarching) old
 write-early v rs old h = wrote-by v rs old (refused StillMarching) old (cond-false (eqb (marching (pixels v rs)) 0) _ _ (ne-eqb (marching (pixels v rs)) 0 (λ e. omega arith))) refl
@@ -166,7 +167,7 @@ pub write-tight : (v : View) (rs : List Pixel) (old : List ℕ) → area v ≤ l
 write-tight v rs old room e h =
     let ps = pixels v rs in
     wrote-by v rs old (refused NoRoom) old
-      (cond-true (eqb (marching ps) 0) _ _ (eq-eqb (marching ps) 0 e) ∙ cond-false (leb (4 * (2 + length ps)) (length old)) _ _ (lt-leb (4 * (2 + length ps)) (length old) (omega (arith, long-pixels v rs room)))) refl
+    (cond-true (eqb (marching ps) 0) _ _ (eq-eqb (marching ps) 0 e) ∙ cond-false (leb (4 * (2 + length ps)) (length old)) _ _ (lt-leb (4 * (2 + length ps)) (length old) (omega (arith, long-pixels v rs room)))) refl
 
 pub write-done : (v : View) (rs : List Pixel) (old out : List ℕ) → area v ≤ length rs → marching (pixels v rs) ≡ 0 → 4 * (2 + area v) ≤ length old
     → out ≡ image v (pixels v rs) ++ drop (4 * (2 + length (pixels v rs))) old → Wrote v rs old (wrote (4 * (2 + area v)) (take (4 * (2 + area v)) out)) out
@@ -177,9 +178,9 @@ write-done v rs old out room e h f =
     let is : out ≡ image v ps ++ drop n old = f ∙ ap (λ (m : ℕ). image v ps ++ drop m old) size in
     let front : take n out ≡ image v ps = ap (take n) is ∙ take-at (image v ps) (drop n old) n (length-image v ps ∙ size) in
     wrote-by v rs old (wrote n (take n out)) out
-      (cond-true (eqb (marching ps) 0) _ _ (eq-eqb (marching ps) 0 e) ∙ cond-true (leb (4 * (2 + length ps)) (length old)) _ _ (le-leb (4 * (2 + length ps)) (length old) (omega arith))
-        ∙ ap (λ (m : ℕ). (wrote m (image v ps), ps)) size ∙ ap (λ (bs : List ℕ). (wrote n bs, ps)) (sym front))
-      (is ∙ ap (λ (bs : List ℕ). bs ++ drop n old) (sym front))
+    (cond-true (eqb (marching ps) 0) _ _ (eq-eqb (marching ps) 0 e) ∙ cond-true (leb (4 * (2 + length ps)) (length old)) _ _ (le-leb (4 * (2 + length ps)) (length old) (omega arith))
+    ∙ ap (λ (m : ℕ). (wrote m (image v ps), ps)) size ∙ ap (λ (bs : List ℕ). (wrote n bs, ps)) (sym front))
+    (is ∙ ap (λ (bs : List ℕ). bs ++ drop n old) (sym front))
 
 -- open
 pub new-room : (n : ℕ) (rs old : List Pixel) → n ≤ length old → rs ≡ replicate n fresh ++ drop n old → n ≤ length rs

@@ -38,14 +38,14 @@ pub data Did (v : View) (ps : List Pixel) : Call → Answer × List Pixel → Ty
 
 pub did : (v : View) (ps : List Pixel) (c : Call) → Did v ps c (line v ps c)
 did v ps (sweeping b budget) =
-  cond-both (deep b) _ _ (Did v ps (sweeping b budget)) (λ e. swept-all (leb-true 32767 (b .reach) e)) (λ _. nothing tt)
+    cond-both (deep b) _ _ (Did v ps (sweeping b budget)) (λ e. swept-all (leb-true 32767 (b .reach) e)) (λ _. nothing tt)
 did v ps (touching i j b budget) =
-  cond-both (has v i j) _ _ (Did v ps (touching i j b budget))
+    cond-both (has v i j) _ _ (Did v ps (touching i j b budget))
     (λ _. cond-both (deep b) _ _ (Did v ps (touching i j b budget)) (λ e. touched-one (leb-true 32767 (b .reach) e)) (λ _. nothing tt))
     (λ _. nothing tt)
 did v ps (reading i j) = cond-both (has v i j) _ _ (Did v ps (reading i j)) (λ _. nothing tt) (λ _. nothing tt)
 did v ps (writing room) =
-  cond-both (eqb (marching ps) 0) _ _ (Did v ps (writing room))
+    cond-both (eqb (marching ps) 0) _ _ (Did v ps (writing room))
     (λ _. cond-both (leb (4 * (2 + length ps)) room) _ _ (Did v ps (writing room)) (λ _. nothing tt) (λ _. nothing tt))
     (λ _. nothing tt)
 
@@ -65,24 +65,23 @@ set-keeps P (p ∷ ps) (suc i) (suc k) x new h = set-keeps P ps i k x (λ e. new
 -- one pixel over a log whose bodies, brought to accepted calls, are Good
 module _ (v : View) (k : ℕ) (P : Pixel → Type 0) (Good : Body → Type 0)
     (step : (b : Body) → Good b → 32767 ≤ b .reach → (t n : ℕ) → P (Marching t n) → P (stepped (v .far) t n (along-ray v b k t))) where
-
   at-index : (b : Body) → Good b → 32767 ≤ b .reach → (i : ℕ) → k ≡ i → (t n : ℕ) → P (Marching t n) → P (stepped (v .far) t n (along-ray v b i t))
   at-index b g d i e = subst (λ (i : ℕ). (t n : ℕ) → P (Marching t n) → P (stepped (v .far) t n (along-ray v b i t))) e (step b g d)
 
   line-keeps : (ps : List Pixel) (ls : List Line) (c : Call) (r : Answer × List Pixel) → Did v ps c r
-    → ((b : Body) → Brought b (record { call = c; answer = r .0; after = r .1 } ∷ ls) → Good b)
-    → P (getD ps k past) → P (getD (r .1) k past)
+      → ((b : Body) → Brought b (record { call = c; answer = r .0; after = r .1 } ∷ ls) → Good b)
+      → P (getD ps k past) → P (getD (r .1) k past)
   line-keeps ps ls _ _ (swept-all {b} {budget} deep-b) good h =
-    swept-keeps P (along-ray v b) (v .far) 0 k (λ i e. at-index b (good b to-sweep) deep-b i (omega arith)) budget ps h
+      swept-keeps P (along-ray v b) (v .far) 0 k (λ i e. at-index b (good b to-sweep) deep-b i (omega arith)) budget ps h
   line-keeps ps ls _ _ (touched-one {i} {j} {b} {budget} deep-b) good h =
-    set-keeps P ps (place v i j) k (touched-by v b (place v i j) budget ps .0)
+      set-keeps P ps (place v i j) k (touched-by v b (place v i j) budget ps .0)
       (λ e. settled-keeps P (along-ray v b (place v i j)) (v .far) (at-index b (good b to-touch) deep-b (place v i j) (sym e)) budget (getD ps (place v i j) past) (rw e h)) h
   line-keeps ps ls _ _ (nothing q) good h = h
 
   pub log-keeps : (cs : List Call) (ps : List Pixel) → ((b : Body) → Brought b (play v ps cs) → Good b) → P (getD ps k past) → P (getD (last-of ps (play v ps cs)) k past)
   log-keeps [] ps good h = h
   log-keeps (c ∷ cs) ps good h =
-    log-keeps cs (line v ps c .1) (λ b x. good b (later x)) (line-keeps ps (play v (line v ps c .1) cs) c (line v ps c) (did v ps c) good h)
+      log-keeps cs (line v ps c .1) (λ b x. good b (later x)) (line-keeps ps (play v (line v ps c .1) cs) c (line v ps c) (did v ps c) good h)
 
 -- calls and then more
 pub play-more : (v : View) (cs more : List Call) (ps : List Pixel) → last-of ps (play v ps (cs ++ more)) ≡ last-of (last-of ps (play v ps cs)) (play v (last-of ps (play v ps cs)) more)

@@ -77,16 +77,16 @@ module _ (clear : ℕ → ℕ → ℕ) (far : ℕ) where
   pub over-spent : (k spent budget : ℕ) (rs : List Pixel) (goal : List Pixel × ℕ) → spent ≡ budget → onward k (budget - spent) rs ≡ goal → Over rs spent budget goal
   over-spent k spent budget rs goal e p =
       over rs spent budget goal (omega arith)
-        (none-left (λ (b : ℕ). (rs, b)) spent budget e
-        ∙ ap (λ l. (l, 0)) (sym (take-append-drop k rs)) ∙ ap (joined (take k rs)) (sym (swept-none clear far k (drop k rs)))
-        ∙ sym (none-left (λ (b : ℕ). onward k b rs) spent budget e) ∙ p)
+      (none-left (λ (b : ℕ). (rs, b)) spent budget e
+      ∙ ap (λ l. (l, 0)) (sym (take-append-drop k rs)) ∙ ap (joined (take k rs)) (sym (swept-none clear far k (drop k rs)))
+      ∙ sym (none-left (λ (b : ℕ). onward k b rs) spent budget e) ∙ p)
 
   -- every pixel was settled
   pub over-end : (k spent budget : ℕ) (rs : List Pixel) (goal : List Pixel × ℕ) → length rs ≤ k → spent ≤ budget → onward k (budget - spent) rs ≡ goal → Over rs spent budget goal
   over-end k spent budget rs goal h l p =
       let b = budget - spent in
       over rs spent budget goal l
-        (sym (ap (λ l. joined (take k rs) (swept clear far b k l)) (drop-all k rs h) ∙ ap (λ l. (l, b)) (append-nil (take k rs) ∙ take-all k rs h)) ∙ p)
+      (sym (ap (λ l. joined (take k rs) (swept clear far b k l)) (drop-all k rs h) ∙ ap (λ l. (l, b)) (append-nil (take k rs) ∙ take-all k rs h)) ∙ p)
 
 -- a touch
 module _ (clear : ℕ → ℕ) (far k : ℕ) where
@@ -110,12 +110,12 @@ module _ (clear : ℕ → ℕ) (far k : ℕ) where
   touch-settled spent budget rs goal m l p =
       let b = budget - spent in
       over rs spent budget goal l
-        (ap (λ l. (l, b)) (sym (set-getD rs k fresh)) ∙ ap (λ (s : Pixel × ℕ). (set rs k (s .0), s .1)) (sym (settled-stays clear far b (getD rs k fresh) m)) ∙ p)
+      (ap (λ l. (l, b)) (sym (set-getD rs k fresh)) ∙ ap (λ (s : Pixel × ℕ). (set rs k (s .0), s .1)) (sym (settled-stays clear far b (getD rs k fresh) m)) ∙ p)
 
   pub touch-spent : (spent budget : ℕ) (rs : List Pixel) (goal : List Pixel × ℕ) → spent ≡ budget → onto (budget - spent) rs ≡ goal → Over rs spent budget goal
   touch-spent spent budget rs goal e p =
       over rs spent budget goal (omega arith)
-        (none-left (λ (b : ℕ). (rs, b)) spent budget e ∙ ap (λ l. (l, 0)) (sym (set-getD rs k fresh)) ∙ sym (none-left (λ (b : ℕ). onto b rs) spent budget e) ∙ p)
+      (none-left (λ (b : ℕ). (rs, b)) spent budget e ∙ ap (λ l. (l, 0)) (sym (set-getD rs k fresh)) ∙ sym (none-left (λ (b : ℕ). onto b rs) spent budget e) ∙ p)
 
 -- a step of pixel (i, j), asked from the start of its ray
 pub stepped-at : (v : View) (b : Body) (i j t n : ℕ) (s : Point) (q : Pixel) → s ≡ start v i j → q ≡ stepped (v .far) t n (b .clear (along s t (v .ray))) → q ≡ stepped (v .far) t n (clear-at v b i j t)

@@ -40,10 +40,10 @@ settled-spent clear far b p e = from (settled clear far b p .1) refl
 pub swept-went : (clear : ℕ → ℕ → ℕ) (far b i k j : ℕ) → i ≡ j + k → (ps : List Pixel) → (n : ℕ) × Went (clear i) far n (getD ps k past) (getD (swept clear far b j ps .0) k past)
 swept-went clear far b i k j e [] = (0, stays)
 swept-went clear far b i zero j e (p ∷ ps) =
-  let s = settled (clear j) far b p in
-  let same : j ≡ i = omega arith in
-  let n : ℕ = b - s .1 in
-  (n, subst (λ (i : ℕ). Went (clear i) far n p (s .0)) same (settled-went (clear j) far b p n (omega (arith, settled-left (clear j) far b p))))
+    let s = settled (clear j) far b p in
+    let same : j ≡ i = omega arith in
+    let n : ℕ = b - s .1 in
+    (n, subst (λ (i : ℕ). Went (clear i) far n p (s .0)) same (settled-went (clear j) far b p n (omega (arith, settled-left (clear j) far b p))))
 swept-went clear far b i (suc k) j e (p ∷ ps) = swept-went clear far (settled (clear j) far b p .1) i k (j + 1) (omega arith) ps
 
 pub swept-spent : (clear : ℕ → ℕ → ℕ) (far b j k : ℕ) (ps : List Pixel) → marches (getD (swept clear far b j ps .0) k past) ≡ true → swept clear far b j ps .1 ≡ 0
@@ -63,5 +63,5 @@ pub swept-order : (clear : ℕ → ℕ → ℕ) (far b j k m : ℕ) (ps : List P
 swept-order clear far b j k m [] lt e = refl
 swept-order clear far b j k zero (p ∷ ps) lt e = absurd (omega arith)
 swept-order clear far b j zero (suc m) (p ∷ ps) lt e =
-  ap (λ (l : ℕ). getD (swept clear far l (j + 1) ps .0) m past) (settled-spent (clear j) far b p e) ∙ ap (λ (s : List Pixel × ℕ). getD (s .0) m past) (swept-none clear far (j + 1) ps)
+    ap (λ (l : ℕ). getD (swept clear far l (j + 1) ps .0) m past) (settled-spent (clear j) far b p e) ∙ ap (λ (s : List Pixel × ℕ). getD (s .0) m past) (swept-none clear far (j + 1) ps)
 swept-order clear far b j (suc k) (suc m) (p ∷ ps) lt e = swept-order clear far (settled (clear j) far b p .1) (j + 1) k m ps (omega arith) e

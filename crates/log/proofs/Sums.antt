@@ -63,8 +63,8 @@ swept-left clear far b k (p ∷ ps) = omega (arith, settled-left (clear k) far b
 pub swept-rest : (clear : ℕ → ℕ → ℕ) (far b k : ℕ) (ps : List Pixel) → 0 < swept clear far b k ps .1 → marching (swept clear far b k ps .0) ≡ 0
 swept-rest clear far b k [] h = refl
 swept-rest clear far b k (p ∷ ps) h =
-  let some : 0 < settled (clear k) far b p .1 = omega (arith, swept-left clear far (settled (clear k) far b p .1) (k + 1) ps) in
-  omega (arith, settled-rest (clear k) far b p some, swept-rest clear far (settled (clear k) far b p .1) (k + 1) ps h)
+    let some : 0 < settled (clear k) far b p .1 = omega (arith, swept-left clear far (settled (clear k) far b p .1) (k + 1) ps) in
+    omega (arith, settled-rest (clear k) far b p some, swept-rest clear far (settled (clear k) far b p .1) (k + 1) ps h)
 
 swept-fewer : (clear : ℕ → ℕ → ℕ) (far b k : ℕ) (ps : List Pixel) → marching (swept clear far b k ps .0) ≤ marching ps
 swept-fewer clear far b k [] = omega arith
@@ -152,8 +152,9 @@ log-either v (c ∷ cs) ps = join (line-either v ps c (line v ps c) (did v ps c)
   where
     rest : List Line
     rest = play v (line v ps c .1) cs
+
     join : (marching (line v ps c .1) ≡ 0) ⊎ (asked c (line v ps c .0) ≤ amount (line v ps c .0)) → (marching (last-of (line v ps c .1) rest) ≡ 0) ⊎ (budgets rest ≤ answered rest)
-      → (marching (last-of (line v ps c .1) rest) ≡ 0) ⊎ (asked c (line v ps c .0) + budgets rest ≤ amount (line v ps c .0) + answered rest)
+        → (marching (last-of (line v ps c .1) rest) ≡ 0) ⊎ (asked c (line v ps c .0) + budgets rest ≤ amount (line v ps c .0) + answered rest)
     join (inl a) y = inl (omega (arith, log-fewer v cs (line v ps c .1)))
     join (inr a) (inl b) = inl b
     join (inr a) (inr b) = inr (omega arith)

@@ -43,8 +43,8 @@ module _ (v : View) (k : ℕ) (hk : k < area v) where
 
   pt-in : (t : ℕ) → t ≤ v .far → In 32767 (pt t)
   pt-in t h =
-    let wide : 0 < v .width = some-left (v .width) (v .height) k hk in
-    point-in v (k % v .width) (k / v .width) t (mod-lt k wide) (div-lt-iff-lt-mul wide .1 (rw (mul-comm (v .height) (v .width)) hk)) h
+      let wide : 0 < v .width = some-left (v .width) (v .height) k hk in
+      point-in v (k % v .width) (k / v .width) t (mod-lt k wide) (div-lt-iff-lt-mul wide .1 (rw (mul-comm (v .height) (v .width)) hk)) h
 
   new-here : (P : Pixel → Type 0) → P fresh → P (getD (opened v) k past)
   new-here P h = subst⁻¹ P (getD-replicate (area v) k fresh past hk) h
@@ -57,20 +57,21 @@ module _ (v : View) (k : ℕ) (hk : k < area v) where
 
   right : (cs : List Call) (M : Point → Bool) → ((b : Body) → Brought b (log v cs) → Told M b) → Right (λ t. M (pt t)) (v .far) (getD (stands v cs) k past)
   right cs M told =
-    let P : Pixel → Type 0 = Right (λ t. M (pt t)) (v .far) in
-    log-keeps v k P (Told M) (λ b g deep t n h. right-step (λ t. M (pt t)) (v .far) (along-ray v b k) (clears M b g deep) t n h) cs (opened v) told
+      let P : Pixel → Type 0 = Right (λ t. M (pt t)) (v .far) in
+      log-keeps v k P (Told M) (λ b g deep t n h. right-step (λ t. M (pt t)) (v .far) (along-ray v b k) (clears M b g deep) t n h) cs (opened v) told
       (new-here P (omega arith, λ u lt. absurd (omega arith)))
 
   lags : (cs : List Call) (M : Point → Bool) → ((b : Body) → Brought b (log v cs) → Told M b) → (r : Body) → Rival v M cs r → (m : ℕ) → Takes (along-ray v r k) (v .far) 0 m → Lags (along-ray v r k) (v .far) m (getD (stands v cs) k past)
   lags cs M told r rival m takes =
-    let P : Pixel → Type 0 = λ p. Right (λ t. M (pt t)) (v .far) p × Lags (along-ray v r k) (v .far) m p in
-    let Good : Body → Type 0 = λ b. Told M b × ((p : Point) → In 32767 p → r .clear p ≤ b .clear p) in
-    let ri = rides M r (rival .lawful, rival .members) (rival .deep-enough) in
-    log-keeps v k P Good
+      let P : Pixel → Type 0 = λ p. Right (λ t. M (pt t)) (v .far) p × Lags (along-ray v r k) (v .far) m p in
+      let Good : Body → Type 0 = λ b. Told M b × ((p : Point) → In 32767 p → r .clear p ≤ b .clear p) in
+      let ri = rides M r (rival .lawful, rival .members) (rival .deep-enough) in
+      log-keeps v k P Good
       (λ b g deep t n h.
-        let cl = clears M b (g .0) deep in
-        ( right-step (λ t. M (pt t)) (v .far) (along-ray v b k) cl t n (h .0)
-        , lags-step (λ t. M (pt t)) (v .far) (along-ray v r k) (along-ray v b k) ri cl (λ t le. g .1 (pt t) (pt-in t le)) m t n (h .0) (h .1) ))
+      let cl = clears M b (g .0) deep in (
+        right-step (λ t. M (pt t)) (v .far) (along-ray v b k) cl t n (h .0),
+        lags-step (λ t. M (pt t)) (v .far) (along-ray v r k) (along-ray v b k) ri cl (λ t le. g .1 (pt t) (pt-in t le)) m t n (h .0) (h .1),
+      ))
       cs (opened v) (λ b x. (told b x, rival .no-more b x))
       (new-here P ((omega arith, λ u lt. absurd (omega arith)), (0, m, omega arith, omega arith, takes))) .1
 
@@ -85,34 +86,35 @@ ends v cs h = elim (log-either v cs (opened v)) [ inl e ↦ e | inr le ↦ omega
   where
     all : length (stands v cs) ≡ area v
     all = log-length v cs (opened v) ∙ length-replicate (area v) fresh
+
     all-room : spent (stands v cs) + marching (stands v cs) ≤ area v * (v .far + 1)
     all-room = subst (λ (n : ℕ). spent (stands v cs) + marching (stands v cs) ≤ n * (v .far + 1)) all (room (v .far) (stands v cs) (stands-sane v cs))
 
 lasting : (v : View) (cs more : List Call) (k : ℕ) → marches (getD (stands v cs) k past) ≡ false → getD (stands v (cs ++ more)) k past ≡ getD (stands v cs) k past
 lasting v cs more k e =
-  let q : Pixel = getD (stands v cs) k past in
-  ap (λ ps. getD ps k past) (play-more v cs more (opened v))
-  ∙ log-keeps v k (λ p. p ≡ q) (λ _. Unit {0})
-      (λ b g d t n h. absurd (both-ways (marches q) e (sym (ap marches h)))) more (stands v cs) (λ _ _. tt) refl
+    let q : Pixel = getD (stands v cs) k past in
+    ap (λ ps. getD ps k past) (play-more v cs more (opened v))
+    ∙ log-keeps v k (λ p. p ≡ q) (λ _. Unit {0})
+    (λ b g d t n h. absurd (both-ways (marches q) e (sym (ap marches h)))) more (stands v cs) (λ _ _. tt) refl
 
 piled-told : (M : Point → Bool) (b : Body) → Piled M b → Told M b
 piled-told M b (N, e, pile, same) = (pile-lawful pile, λ p. pile-members pile p ∙ same p)
 
 pub held : (v : View) (cs : List Call) → Held v cs
-held v cs = record
-  { lines = lines v cs (opened v) (record { long = length-replicate (area v) fresh; sound = new-sane (v .far) (area v) })
-  ; counts = counts v cs
-  ; ends = ends v cs
-  ; lasting = λ more i j _ e. lasting v cs more (place v i j) e
-  ; shown = λ M piles.
+held v cs = record {
+  lines = lines v cs (opened v) (record { long = length-replicate (area v) fresh; sound = new-sane (v .far) (area v) });
+  counts = counts v cs;
+  ends = ends v cs;
+  lasting = λ more i j _ e. lasting v cs more (place v i j) e;
+  shown = λ M piles.
       let told : (b : Body) → Brought b (log v cs) → Told M b = λ b x. piled-told M b (piles b x) in
-      record
-        { shows = λ i j h. at-pixel (λ a b. Shows v M a b (pixel v cs i j)) v i j (h .0) (right v (place v i j) (place-in v i j (h .0) (h .1)) cs M told)
-        ; fewest = λ i j h e r rival n takes.
+      record {
+        shows = λ i j h. at-pixel (λ a b. Shows v M a b (pixel v cs i j)) v i j (h .0) (right v (place v i j) (place-in v i j (h .0) (h .1)) cs M told);
+        fewest = λ i j h e r rival n takes.
             lags-ends (along-ray v r (place v i j)) (v .far) n (pixel v cs i j) e
-              (lags v (place v i j) (place-in v i j (h .0) (h .1)) cs M told r rival n (from-pixel (λ a b. Takes (clear-at v r a b) (v .far) 0 n) v i j (h .0) takes))
-        }
-  }
+            (lags v (place v i j) (place-in v i j (h .0) (h .1)) cs M told r rival n (from-pixel (λ a b. Takes (clear-at v r a b) (v .far) 0 n) v i j (h .0) takes));
+      };
+}
 
 settles : Settles
 settles v b _ i j _ = let t = takes-some (clear-at v b i j) (v .far) (v .far + 1) 0 (omega arith) (omega arith) in (t .0, t .2)
@@ -122,7 +124,8 @@ whole = record { piles = piles-stand; logs = held; settles = settles }
 
 -- one call more, as the plate answers it
 pub promised : (v : View) (ps qs : List Pixel) (c : Call) (a : Answer) → _≡_ {A = Answer × List Pixel} (a, qs) (line v ps c)
-  → (cs : List Call) → ps ≡ stands v cs → (qs ≡ stands v (cs ++ (c ∷ []))) × Held v (cs ++ (c ∷ []))
-promised v ps qs c a e cs h =
-  ( ap (λ x. x .1) e ∙ ap (λ ps. line v ps c .1) h ∙ sym (play-more v cs (c ∷ []) (opened v))
-  , held v (cs ++ (c ∷ [])) )
+    → (cs : List Call) → ps ≡ stands v cs → (qs ≡ stands v (cs ++ (c ∷ []))) × Held v (cs ++ (c ∷ []))
+promised v ps qs c a e cs h = (
+  ap (λ x. x .1) e ∙ ap (λ ps. line v ps c .1) h ∙ sym (play-more v cs (c ∷ []) (opened v)),
+  held v (cs ++ (c ∷ [])),
+)

@@ -73,18 +73,18 @@ pub record Image (v : View) (ps : List Pixel) (bs : List ℕ) : Type 0 where
 abbrev pub Fair : View → List Pixel → Call → Answer → List Pixel → Type 0
 Fair v ps (sweeping b budget) a qs =
     (b .reach < 32767 → Refused 16 0 a ps qs)
-  × (32767 ≤ b .reach → (s : ℕ) × ((a ≡ counted s (marching qs)) × Sweeps v b budget s ps qs))
+    × (32767 ≤ b .reach → (s : ℕ) × ((a ≡ counted s (marching qs)) × Sweeps v b budget s ps qs))
 Fair v ps (touching i j b budget) a qs =
     (Outside v i j → Refused 19 0 a ps qs)
-  × (Inside v i j → b .reach < 32767 → Refused 16 0 a ps qs)
-  × (Inside v i j → 32767 ≤ b .reach → (s : ℕ) × ((a ≡ counted s (cond (marches (pixel-in v qs i j)) 1 0)) × Touches v i j b budget s ps qs))
+    × (Inside v i j → b .reach < 32767 → Refused 16 0 a ps qs)
+    × (Inside v i j → 32767 ≤ b .reach → (s : ℕ) × ((a ≡ counted s (cond (marches (pixel-in v qs i j)) 1 0)) × Touches v i j b budget s ps qs))
 Fair v ps (reading i j) a qs =
     (Outside v i j → Refused 19 0 a ps qs)
-  × (Inside v i j → (a ≡ told (pixel-in v ps i j)) × (qs ≡ ps))
+    × (Inside v i j → (a ≡ told (pixel-in v ps i j)) × (qs ≡ ps))
 Fair v ps (writing room) a qs =
     (0 < marching ps → Refused 20 0 a ps qs)
-  × (marching ps ≡ 0 → room < 4 * (2 + area v) → Refused 21 0 a ps qs)
-  × (marching ps ≡ 0 → 4 * (2 + area v) ≤ room → (bs : List ℕ) × ((a ≡ wrote (4 * (2 + area v)) bs) × (qs ≡ ps) × Image v ps bs))
+    × (marching ps ≡ 0 → room < 4 * (2 + area v) → Refused 21 0 a ps qs)
+    × (marching ps ≡ 0 → 4 * (2 + area v) ≤ room → (bs : List ℕ) × ((a ≡ wrote (4 * (2 + area v)) bs) × (qs ≡ ps) × Image v ps bs))
 
 -- each line of a log is fair
 abbrev pub Lines : View → List Pixel → List Line → Type 0

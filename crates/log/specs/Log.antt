@@ -85,9 +85,9 @@ line v ps (sweeping b budget) =
 line v ps (touching i j b budget) =
     cond (has v i j)
     (cond (deep b)
-      (let s = settled (along-ray v b (place v i j)) (v .far) budget (getD ps (place v i j) past) in
-       (counted (budget - s .1) (cond (marches (s .0)) 1 0), set ps (place v i j) (s .0)))
-      (refused Shallow, ps))
+    (let s = settled (along-ray v b (place v i j)) (v .far) budget (getD ps (place v i j) past) in
+    (counted (budget - s .1) (cond (marches (s .0)) 1 0), set ps (place v i j) (s .0)))
+    (refused Shallow, ps))
     (refused NoPixel, ps)
 line v ps (reading i j) = cond (has v i j) (told (getD ps (place v i j) past), ps) (refused NoPixel, ps)
 line v ps (writing room) =

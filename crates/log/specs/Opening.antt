@@ -17,10 +17,15 @@ use Rattle.log.specs.declared.fault.PlateFault.the-variants.{View, TooFewRecor
 
 -- the view of a plate that is not opened: no pixels, no depth
 abbrev pub blank : PlainView
-blank = record
-  { origin = record { x = pos 0; y = pos 0; z = pos 0 }
-  ; ray = (pos 0, pos 0, pos 1); across = (pos 1, pos 0, pos 0); down = (pos 0, pos 1, pos 0)
-  ; width = 0; height = 0; far = 0 }
+blank = record {
+  origin = record { x = pos 0; y = pos 0; z = pos 0 };
+  ray = (pos 0, pos 0, pos 1);
+  across = (pos 1, pos 0, pos 0);
+  down = (pos 0, pos 1, pos 0);
+  width = 0;
+  height = 0;
+  far = 0;
+}
 
 -- what opening answers, and the view and the records that it leaves, by the view's numbers as they are checked, and the view and the
 -- records before: the numbers' fault, or too few records, and then all is as it was; else one new record a pixel, the rest as they were

@@ -26,9 +26,13 @@ pub enum PlateFault {
 }
 
 const SHALLOW: u32 = 16;
+
 const TOO_FEW_RECORDS: u32 = 18;
+
 const NO_PIXEL: u32 = 19;
+
 const STILL_MARCHING: u32 = 20;
+
 const NO_ROOM: u32 = 21;
 
 pub impl Refusal for PlateFault as PlateRefusal {

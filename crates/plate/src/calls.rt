@@ -9,14 +9,6 @@ ghost use Rattle.log.specs.Log.{sweeping, touching, reading, writing, done, wri
 ghost use Rattle.log.specs.Opening.{blank, opening};
 ghost use Rattle.log.specs.Example.{Worked};
 ghost use Rattle.log.specs.Law.{Promise, Whole};
-use lattice::Point;
-use lattice::direction::Direction;
-use log::fault::PlateFault;
-use log::fault::PlateFaultFromView;
-use march::pixel::Pixel;
-use march::view::View;
-use march::view::ViewNumbers;
-use solid::Solid;
 use super::Plate;
 use super::WORKING;
 use super::count_marching;
@@ -25,6 +17,14 @@ use super::put_image;
 use super::renew;
 use super::settle;
 use super::sweep_all;
+use lattice::Point;
+use lattice::direction::Direction;
+use log::fault::PlateFault;
+use log::fault::PlateFaultFromView;
+use march::pixel::Pixel;
+use march::view::View;
+use march::view::ViewNumbers;
+use solid::Solid;
 
 impl<'a> Plate<'a> {
     /// A plate that is not opened: it has no pixels.
@@ -38,7 +38,15 @@ impl<'a> Plate<'a> {
         let ray = Direction { x: 0, y: 0, z: 1 };
         let across = Direction { x: 1, y: 0, z: 0 };
         let down = Direction { x: 0, y: 1, z: 0 };
-        let view = View { origin, ray, across, down, width: 0, height: 0, far: 0 };
+        let view = View {
+            origin,
+            ray,
+            across,
+            down,
+            width: 0,
+            height: 0,
+            far: 0,
+        };
         Plate { records, view }
     }
 
@@ -84,7 +92,13 @@ impl<'a> Plate<'a> {
 
     /// Steps one pixel until it settles or the budget is spent. The probes that it spent, and 1
     /// while the pixel marches, else 0.
-    pub fn touch<S: Solid>(&mut self, i: u32, j: u32, solid: &S, budget: u32) -> Result<(u32, u32), PlateFault>
+    pub fn touch<S: Solid>(
+        &mut self,
+        i: u32,
+        j: u32,
+        solid: &S,
+        budget: u32,
+    ) -> Result<(u32, u32), PlateFault>
         ensures line { λ r. ⌜ (counts-of r, now (now (self .exit) .records)) ≡ done (now (self .entry) .view) (now (now (self .entry) .records)) (touching i j (S·Solid .body (now (solid .entry))) budget) ⌝ }
         ensures promise { λ _. ⌜ Promise (now (self .entry) .view) (now (now (self .entry) .records)) (now (now (self .exit) .records)) (touching i j (S·Solid .body (now (solid .entry))) budget) ⌝ }
         ensures view { λ _. ⌜ now (self .exit) .view ≡ now (self .entry) .view ⌝ }

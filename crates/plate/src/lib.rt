@@ -48,7 +48,11 @@ fn moved(p: Point, n: u32, d: Direction) -> Point
     requires { ⌜ In 32767 p × (n ≤ 4095) ⌝ }
     ensures { λ r. ⌜ r ≡ along p n d ⌝ }
 {
-    Point { x: ahead(p.x, n, d.x), y: ahead(p.y, n, d.y), z: ahead(p.z, n, d.z) }
+    Point {
+        x: ahead(p.x, n, d.x),
+        y: ahead(p.y, n, d.y),
+        z: ahead(p.z, n, d.z),
+    }
 }
 
 /// Where the ray of pixel (i, j) starts.
@@ -68,9 +72,15 @@ fn step<S: Solid>(solid: &S, view: &View, start: Point, t: u32, probes: u32) -> 
     ensures sound { λ r. ⌜ sane (now (view .entry) .far) r ≡ true ⌝ }
 {
     match solid.clearance(moved(start, t, view.ray)) {
-        Ok(0) => Pixel::Hit { depth: t, probes: probes + 1 },
+        Ok(0) => Pixel::Hit {
+            depth: t,
+            probes: probes + 1,
+        },
         Ok(c) if c > view.far - t => Pixel::Miss { probes: probes + 1 },
-        Ok(c) => Pixel::Marching { t: t + c, probes: probes + 1 },
+        Ok(c) => Pixel::Marching {
+            t: t + c,
+            probes: probes + 1,
+        },
         Err(_) => Pixel::Marching { t, probes },
     }
 }
@@ -145,7 +155,15 @@ fn sweep_all<S: Solid>(pixels: &mut [Pixel], view: &View, solid: &S, budget: u32
 
 /// Steps pixel (i, j), whose record is at k, until it settles or the budget is spent. How much was
 /// spent, and 1 where the pixel still marches, else 0.
-fn settle<S: Solid>(records: &mut [Pixel], k: usize, view: &View, i: u32, j: u32, solid: &S, budget: u32) -> (u32, u32)
+fn settle<S: Solid>(
+    records: &mut [Pixel],
+    k: usize,
+    view: &View,
+    i: u32,
+    j: u32,
+    solid: &S,
+    budget: u32,
+) -> (u32, u32)
     requires there { ⌜ k < length (now records) ⌝ }
     requires within { ⌜ (i < now view .width) × (j < now view .height) ⌝ }
     requires reaches { ⌜ 32767 ≤ S·Solid .body (now solid) .reach ⌝ }
@@ -169,9 +187,13 @@ fn settle<S: Solid>(records: &mut [Pixel], k: usize, view: &View, i: u32, j: u32
 
 /// Bits 31..28 of a word are its kind.
 const KIND: u32 = 0x1000_0000;
+
 const NUMBER: u32 = 2 * KIND;
+
 const IMAGE: u32 = 10 * KIND;
+
 const HIT: u32 = 11 * KIND;
+
 const MISS: u32 = 12 * KIND;
 
 /// Bits 27..16 are the first of two numbers, bits 15..0 the second.

@@ -17,8 +17,9 @@ loop-pixel-again c =
     let x = marches (getD ps i fresh) in
     let d : marching (drop i ps) ≡ cond x 1 0 + marching (drop (i + 1) ps) = at-drop-more marching ps i fresh (c .loop-pixel-test .taken) in
     elim (c .if-is-marching .came) [
-      then-is-marching w ↦ let e : _≡_ {A = ℕ} (cond x 1 0) 1 = cond-true x 1 0 (sym (c .is-marching .ensures) ∙ w .if-is-marching .taken) in omega (arith, w .n-is)
-    | else-is-marching w ↦ let e : _≡_ {A = ℕ} (cond x 1 0) 0 = cond-false x 1 0 (sym (c .is-marching .ensures) ∙ w .if-is-marching .left) in omega (arith, w .n-is) ]
+      | then-is-marching w ↦ let e : _≡_ {A = ℕ} (cond x 1 0) 1 = cond-true x 1 0 (sym (c .is-marching .ensures) ∙ w .if-is-marching .taken) in omega (arith, w .n-is)
+      | else-is-marching w ↦ let e : _≡_ {A = ℕ} (cond x 1 0) 0 = cond-false x 1 0 (sym (c .is-marching .ensures) ∙ w .if-is-marching .left) in omega (arith, w .n-is)
+    ]
 
 pub returns : need.returns
 returns c =

@@ -18,9 +18,9 @@ word-of-requires c κs =
 pub loop-k-again : need.loop-k-again
 loop-k-again c =
     put-more (c .args .view .now) (c .args .pixels .now) (c .loop-k .out) (c .put-2 .last .out) (c .put-in-loop-k .last .out) (c .loop-k .k) (c .loop-k-test .taken) (c .loop-k .inv)
-      (c .put-in-loop-k .ensures ∙ ap (λ w. paste (c .loop-k .out) (8 + 4 * c .loop-k .k) (four w) 4) (c .word-of .ensures))
+    (c .put-in-loop-k .ensures ∙ ap (λ w. paste (c .loop-k .out) (8 + 4 * c .loop-k .k) (four w) 4) (c .word-of .ensures))
 
 pub returns : need.returns
 returns c =
     put-all (c .args .view .now) (c .args .pixels .now) (c .loop-k .out) (c .put .last .out) (c .put-2 .last .out) (c .args .out .now) (c .loop-k .k)
-      (c .loop-k-test .left) (c .loop-k .kept .k-end) (c .put .ensures) (c .put-2 .ensures) (c .loop-k .inv)
+    (c .loop-k-test .left) (c .loop-k .kept .k-end) (c .put .ensures) (c .put-2 .ensures) (c .loop-k .inv)

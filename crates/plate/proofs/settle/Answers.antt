@@ -16,10 +16,11 @@ pub step-requires : need.step-requires
 step-requires g c κs =
     let v = c .args .view .now in
     let h = sane-parts (v .far) (c .in-Marching .t) (c .in-Marching .probes) (sym (ap (sane (v .far)) (c .in-Marching .is)) ∙ c .loop-records .inv .2) in
-    record
-      { near = subst⁻¹ (In 16510) (c .start-of-start .ensures) (start-in v (c .args .i) (c .args .j) (c .pre .within .0) (c .pre .within .1))
-      ; within = (h .0, h .1)
-      ; reaches = c .pre .reaches }
+    record {
+      near = subst⁻¹ (In 16510) (c .start-of-start .ensures) (start-in v (c .args .i) (c .args .j) (c .pre .within .0) (c .pre .within .1));
+      within = (h .0, h .1);
+      reaches = c .pre .reaches;
+    }
 
 pub loop-records-again : need.loop-records-again
 loop-records-again g c =
@@ -31,12 +32,13 @@ loop-records-again g c =
     let n = c .in-Marching .probes in
     let q = c .step .result in
     let inside = c .loop-records .inv .1 in
-    let is = stepped-at v b (c .args .i) (c .args .j) t n (c .start-of-start .result) q (c .start-of-start .ensures) (c .step .ensures .value) in
-    ( omega arith
-    , omega (arith, length-set rs k q)
-    , ap (sane (v .far)) (getD-set-same rs k q fresh inside) ∙ c .step .ensures .sound
-    , touch-turn (clear-at v b (c .args .i) (c .args .j)) (v .far) k (c .loop-records .spent) (c .args .budget) t n rs (set rs k q) _
-        inside (c .in-Marching .is) (omega arith) (ap (set rs k) is) (c .loop-records .inv .3) )
+    let is = stepped-at v b (c .args .i) (c .args .j) t n (c .start-of-start .result) q (c .start-of-start .ensures) (c .step .ensures .value) in (
+      omega arith,
+      omega (arith, length-set rs k q),
+      ap (sane (v .far)) (getD-set-same rs k q fresh inside) ∙ c .step .ensures .sound,
+      touch-turn (clear-at v b (c .args .i) (c .args .j)) (v .far) k (c .loop-records .spent) (c .args .budget) t n rs (set rs k q) _
+          inside (c .in-Marching .is) (omega arith) (ap (set rs k) is) (c .loop-records .inv .3),
+    )
 
 pub returns-then-spent-budget : need.returns-then-spent-budget
 returns-then-spent-budget g c =

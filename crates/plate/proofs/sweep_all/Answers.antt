@@ -24,10 +24,11 @@ step-requires g c κs =
     let k = c .sweep .j * v .width + c .loop-i .i in
     let sound = sane-at (v .far) (c .loop-pixels .pixels) k (c .loop-pixels .inv .1) (c .loop-pixels .inv .2) in
     let h = sane-parts (v .far) (c .in-Marching .t) (c .in-Marching .probes) (sym (ap (sane (v .far)) (c .in-Marching .is)) ∙ sound) in
-    record
-      { near = subst⁻¹ (In 16510) (c .start-of-start .ensures) (start-in v (c .loop-i .i) (c .sweep .j) (c .loop-i-test .taken) (c .sweep-test .taken))
-      ; within = (h .0, h .1)
-      ; reaches = c .pre .reaches }
+    record {
+      near = subst⁻¹ (In 16510) (c .start-of-start .ensures) (start-in v (c .loop-i .i) (c .sweep .j) (c .loop-i-test .taken) (c .sweep-test .taken));
+      within = (h .0, h .1);
+      reaches = c .pre .reaches;
+    }
 
 pub loop-pixels-again : need.loop-pixels-again
 loop-pixels-again g c =
@@ -40,21 +41,24 @@ loop-pixels-again g c =
     let t = c .in-Marching .t in
     let n = c .in-Marching .probes in
     let q = c .step .result in
-    let is = stepped-place v b i j t n (c .start-of-start .result) q (c .loop-i-test .taken) (c .start-of-start .ensures) (c .step .ensures .value) in
-    ( omega arith
-    , sane-set (v .far) ps k q (c .loop-pixels .inv .1) (c .step .ensures .sound)
-    , omega (arith, length-set ps k q)
-    , turn (along-ray v b) (v .far) k (c .loop-pixels .spent) (c .args .budget) t n ps (set ps k q) _
-        (c .loop-pixels .inv .2) (c .in-Marching .is) (omega arith) (ap (set ps k) is) (c .loop-pixels .inv .3) )
+    let is = stepped-place v b i j t n (c .start-of-start .result) q (c .loop-i-test .taken) (c .start-of-start .ensures) (c .step .ensures .value) in (
+      omega arith,
+      sane-set (v .far) ps k q (c .loop-pixels .inv .1) (c .step .ensures .sound),
+      omega (arith, length-set ps k q),
+      turn (along-ray v b) (v .far) k (c .loop-pixels .spent) (c .args .budget) t n ps (set ps k q) _
+          (c .loop-pixels .inv .2) (c .in-Marching .is) (omega arith) (ap (set ps k) is) (c .loop-pixels .inv .3),
+    )
 
 pub loop-i-again : need.loop-i-again
 loop-i-again g c =
     let v = c .args .view .now in
     let b = g .S·Solid .body (c .args .solid .now) in
     let k = c .sweep .j * v .width + c .loop-i .i in
-    let done = not-marching (getD (c .loop-pixels .pixels) k fresh) (c .in-rest .not-Marching) in
-    ( c .loop-pixels .inv .0, c .loop-pixels .inv .1
-    , next (along-ray v b) (v .far) k _ _ (c .loop-pixels .pixels) _ (c .loop-pixels .inv .2) done (omega arith) (c .loop-pixels .inv .3 ∙ c .loop-i .inv .2) )
+    let done = not-marching (getD (c .loop-pixels .pixels) k fresh) (c .in-rest .not-Marching) in (
+      c .loop-pixels .inv .0,
+      c .loop-pixels .inv .1,
+      next (along-ray v b) (v .far) k _ _ (c .loop-pixels .pixels) _ (c .loop-pixels .inv .2) done (omega arith) (c .loop-pixels .inv .3 ∙ c .loop-i .inv .2),
+    )
 
 pub returns-after-sweep : need.returns-after-sweep
 returns-after-sweep g c =
@@ -67,5 +71,5 @@ pub returns-then-spent-budget : need.returns-then-spent-budget
 returns-then-spent-budget g c =
     let v = c .args .view .now in
     let o = over-spent (along-ray v (g .S·Solid .body (c .args .solid .now))) (v .far) (c .sweep .j * v .width + c .loop-i .i) (c .loop-pixels .spent) (c .args .budget) (c .loop-pixels .pixels) _
-        (c .if-spent-budget .taken) (c .loop-pixels .inv .3 ∙ c .loop-i .inv .2 ∙ c .sweep .inv .2) in
+    (c .if-spent-budget .taken) (c .loop-pixels .inv .3 ∙ c .loop-i .inv .2 ∙ c .sweep .inv .2) in
     record { value = o .0; spent = o .1; sound = c .loop-pixels .inv .1 }

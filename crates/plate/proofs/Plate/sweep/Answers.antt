@@ -46,5 +46,5 @@ returns g c =
     let long = long-swept v rs ps b (c .args .budget) room (c .sweep-all-spent .ensures .value) in
     let left = c .count-marching-left .ensures ∙ ap marching (take-at ps (drop (area v) rs) (area v) long) in
     let l = sweep-done v rs ps qs b (c .args .budget) (c .sweep-all-spent .result) (c .count-marching-left .result) (omega arith) (c .sweep-all-spent .ensures .value) (c .sweep-all-spent .ensures .spent) left refl
-        ∙ ap (λ (rs : List Pixel). done v rs (sweeping b (c .args .budget))) same in
+    ∙ ap (λ (rs : List Pixel). done v rs (sweeping b (c .args .budget))) same in
     record { line = l; promise = promise v (p .records .now) qs (sweeping b (c .args .budget)) _ (p .room) l; view = refl; lender = search needs }

@@ -41,11 +41,12 @@ settle-counts-requires g c κs =
     let k = c .in-Continue-k .k in
     let same = ap (λ (r : RefT (List Pixel)). r .now) (c .take-records .ensures .value) in
     let at = placed v (c .args .i) (c .args .j) k (c .in-Continue-k .ensures tt) in
-    record
-      { there = omega (arith, at .inside, p .room, ap length same)
-      ; within = at .within
-      ; reaches = omega arith
-      ; sound = ap (λ (rs : List Pixel). sane (v .far) (getD rs k fresh)) same ∙ sound-at (v .far) (area v) k (p .records .now) (p .sound) (at .inside) (p .room) }
+    record {
+      there = omega (arith, at .inside, p .room, ap length same);
+      within = at .within;
+      reaches = omega arith;
+      sound = ap (λ (rs : List Pixel). sane (v .far) (getD rs k fresh)) same ∙ sound-at (v .far) (area v) k (p .records .now) (p .sound) (at .inside) (p .room);
+    }
 
 pub ghost-self : need.ghost-self
 ghost-self g c =
@@ -58,9 +59,10 @@ ghost-self g c =
     let qs = c .settle-counts .last .records in
     let q = getD qs k fresh in
     let is : qs ≡ set rs k q = touched-set rs qs k _ (omega (arith, at .inside, p .room, ap length same)) (c .settle-counts .ensures .value) in
-    let sound : all-sane (v .far) (take (area v) rs) ≡ true = ap (λ (rs : List Pixel). all-sane (v .far) (take (area v) rs)) same ∙ p .sound in
-    ( omega (arith, p .room, ap length same, c .settle-counts .kept .records)
-    , (ap (λ (qs : List Pixel). all-sane (v .far) (take (area v) qs)) is ∙ sound-set (v .far) (area v) k rs q sound (at .inside) (c .settle-counts .ensures .sound), tt) )
+    let sound : all-sane (v .far) (take (area v) rs) ≡ true = ap (λ (rs : List Pixel). all-sane (v .far) (take (area v) rs)) same ∙ p .sound in (
+      omega (arith, p .room, ap length same, c .settle-counts .kept .records),
+      (ap (λ (qs : List Pixel). all-sane (v .far) (take (area v) qs)) is ∙ sound-set (v .far) (area v) k rs q sound (at .inside) (c .settle-counts .ensures .sound), tt),
+    )
 
 pub returns : need.returns
 returns g c =
@@ -76,5 +78,5 @@ returns g c =
     let qs = c .settle-counts .last .records in
     let e = c .settle-counts .ensures in
     let l = touch-done v rs qs i j k b (c .args .budget) (c .settle-counts .result .0) (c .settle-counts .result .1) room (placed v i j k (c .in-Continue-k .ensures tt)) (omega arith) (e .value) (e .spent) (e .left)
-        ∙ ap (λ (rs : List Pixel). done v rs (touching i j b (c .args .budget))) same in
+    ∙ ap (λ (rs : List Pixel). done v rs (touching i j b (c .args .budget))) same in
     record { line = l; promise = promise v (p .records .now) qs (touching i j b (c .args .budget)) _ (p .room) l; view = refl; lender = search needs }
