@@ -34,6 +34,8 @@ use leaves::axis_box::AxisBoxSolid;
 use leaves::ball::BallExact;
 use leaves::fault::LeafRefusal;
 
+mod played;
+
 /// No ray takes more steps than this: its far is at most 4,095, and each step goes on by 1 or more.
 const MOST_STEPS: u32 = 4096;
 
@@ -114,6 +116,12 @@ fn send_all(rt: &LibcRuntime) -> Result<(), AnyError> {
     Ok(())
 }
 
+fn tell(rt: &LibcRuntime) -> Result<(), AnyError> {
+    send_all(rt)?;
+    println!(rt, "")?;
+    played::play(rt)
+}
+
 fn main(rt: LibcRuntime) -> Result<(), AnyError> {
-    rt.report(send_all(&rt))
+    rt.report(tell(&rt))
 }
