@@ -1,7 +1,7 @@
 -- A lawful body along a ray, by its members and clearances at the ray's points.
 use mathlib.Core.Path.{_≡_, sym, ap, _∙_}
 use mathlib.Core.Bool.{Bool, true}
-use Prim.Native.Nat.{ℕ, _+_, _-_, _≤_, _<_}
+use Prim.Native.Nat.{ℕ, _-_, _≤_}
 use native.Mathlib.Omega.{arith}
 use Rattle.std.proofs.shelf.Tests.{cond-true, and-from, le-leb}
 use Rattle.std.specs.declared.result.Result.{Result}

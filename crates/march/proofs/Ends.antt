@@ -1,7 +1,7 @@
 -- A ray that is stepped until it settles: each step keeps the end of its march, and what that end tells.
 use mathlib.Core.Path.{_≡_, refl, sym, ap, subst, subst⁻¹, _∙_}
-use mathlib.Core.Bool.{Bool, true, false}
-use Prim.Native.Nat.{ℕ, zero, suc, _+_, _-_, _≤_, _<_}
+use mathlib.Core.Bool.{false}
+use Prim.Native.Nat.{ℕ, _+_, _-_, _≤_, _<_}
 use native.Mathlib.Numerals.{add-one}
 use native.Mathlib.Omega.{arith}
 use lib.Dec.{ltb}
@@ -12,13 +12,12 @@ use Rattle.solid.specs.Body.{Body, Lawful}
 use Rattle.march.specs.declared.pixel.Pixel.{Pixel}
 use Rattle.march.specs.declared.pixel.Pixel.the-variants.{Marching as marching, Hit as hit, Miss as miss}
 use Rattle.march.specs.declared.rays.Marching.{Marching}
-use Rattle.march.specs.declared.rays.Outcome.{Outcome}
 use Rattle.march.specs.declared.rays.Outcome.the-variants.{Hit, Miss}
 use Rattle.march.specs.declared.rays.Settled.{Settled}
 use Rattle.march.specs.declared.rays.StepFault.the-variants.{Shallow}
 use Rattle.march.specs.March.{stepped, settled, marches, probes, Right}
 use Rattle.march.specs.View.{along}
-use Rattle.march.specs.Rays.{PlainRay, plain-ray, clear-of, member-of, state, PlainStepped, on, done, after, step-of, end, settle-answer, Contact}
+use Rattle.march.specs.Rays.{PlainRay, plain-ray, clear-of, member-of, state, on, done, after, step-of, end, settle-answer, Contact}
 use Rattle.march.proofs.Ray.{stepped-by, settled-stays, settled-same, right-settled, takes-some, takes-settles, Settles}
 use Rattle.march.proofs.Space.{ray-in}
 use Rattle.march.proofs.Bodies.{body-clears}

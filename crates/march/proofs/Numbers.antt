@@ -12,8 +12,8 @@ use Rattle.lattice.specs.declared.Point.{Point}
 use Rattle.lattice.specs.Space.{In}
 use Rattle.march.specs.declared.view.ViewNumbers.{ViewNumbers}
 use Rattle.march.specs.declared.view.ViewFault.{ViewFault}
-use Rattle.march.specs.declared.view.ViewFault.the-variants.{Range, Row}
-use Rattle.march.specs.Checks.{Way, PlainView, and-then, range-answer, count-answer, part-answer, origin-answer, ways-answer, sizes-answer, view-answer}
+use Rattle.march.specs.declared.view.ViewFault.the-variants.{Range}
+use Rattle.march.specs.Checks.{Way, and-then, range-answer, count-answer, part-answer, origin-answer, ways-answer, sizes-answer, view-answer}
 
 -- one check after another
 then-ok : {A B : Type 0} (r : Result A ViewFault) (next : A → Result B ViewFault) (a : A) → Ok a ≡ r → and-then r next ≡ next a

@@ -1,7 +1,7 @@
 -- One ray, by the clearance c and the members M at each t of it.
 use mathlib.Core.Path.{_≡_, refl, sym, ap, subst, _∙_}
 use mathlib.Core.Bool.{Bool, true, false, cond}
-use mathlib.Core.Logic.{_⊎_, inl, inr}
+use mathlib.Core.Logic.{inl, inr}
 use Prim.Native.Nat.{ℕ, zero, suc, _+_, _-_, _≤_, _<_}
 use native.Mathlib.Nat.{suc-add, zero-add}
 use native.Mathlib.Numerals.{one-add}
@@ -10,7 +10,7 @@ use lib.Dec.{leb, ltb, eqb}
 use Rattle.std.proofs.shelf.Tests.{cond-both, eqb-true, eqb-false, ltb-true, ltb-false, cases-bool, both-ways, cases-lt, and-from, and-parts, le-leb, leb-true}
 use Rattle.march.specs.declared.pixel.Pixel.{Pixel}
 use Rattle.march.specs.declared.pixel.Pixel.the-variants.{Marching, Hit, Miss}
-use Rattle.march.specs.March.{stepped, marches, probes, sane, settled, Takes, hits, misses, goes-on, First, Right}
+use Rattle.march.specs.March.{stepped, marches, probes, sane, settled, Takes, hits, misses, goes-on, Right}
 
 -- the three ways that a step can go
 pub stepped-by : (P : Pixel → Type 0) (far t n c : ℕ) → (c ≡ 0 → P (Hit t (n + 1))) → (0 < c → far < t + c → P (Miss (n + 1))) → (0 < c → t + c ≤ far → P (Marching (t + c) (n + 1))) → P (stepped far t n c)

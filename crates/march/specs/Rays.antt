@@ -109,15 +109,15 @@ abbrev pub settle-in : Result Settled (StepFault × Marching) → Result Pixel (
 settle-in (Ok s) = Ok (state s)
 settle-in (Err e) = Err e
 
--- In the words of members and probes: where no member lies before the ray's t, as none does on a ray as it is made, a hit is at the
--- ray's first member, and a miss means that there is none up to far. The probes are those of one whole march, and no ray takes
--- more than far + 1.
+-- In the words of members and probes: where no member lies before the ray's t (a ray as it is made has t = 0, and nothing before
+-- it), a hit is at the ray's first member, and a miss means that there is none up to far. The probes are those that it had and those
+-- of one whole march from t on, and they are never more than far + 1.
 pub record Contact (b : Body) (r : PlainRay) (s : Settled) : Type 0 where
   pub right : ((u : ℕ) → u < r .t → member-of b r u ≡ false) → Right (member-of b r) (r .far) (state s)
   pub takes : (n : ℕ) × Takes (clear-of b r) (r .far) (r .t) n × (s .probes ≡ r .probes + n)
   pub most : s .probes ≤ r .far + 1
 
--- a ray is not settled exactly where the solid is not deep enough
+-- a ray is handed back, not settled, exactly where the solid does not reach as far as the working range
 abbrev pub Contact-in : Body → Marching → Result Settled (StepFault × Marching) → Type 0
 Contact-in b m (Ok s) = (32767 ≤ b .reach) × Contact b (plain-ray m) s
 Contact-in b m (Err e) = b .reach < 32767

@@ -18,6 +18,7 @@ const MOST_PIXELS: i32 = 64;
 
 const MOST_FAR: i32 = 4095;
 
+/// The number at a place, from least to most.
 fn ranged(n: i32, least: i32, most: i32, place: u32) -> Result<i32, ViewFault>
     ensures { λ r. ⌜ r ≡ range-answer least most n place ⌝ }
 {
@@ -27,18 +28,21 @@ fn ranged(n: i32, least: i32, most: i32, place: u32) -> Result<i32, ViewFault>
     Ok(n)
 }
 
+/// The same, for what is counted and so is not below 0.
 fn count(n: i32, least: i32, most: i32, place: u32) -> Result<u32, ViewFault>
     ensures { λ r. ⌜ r ≡ count-answer least most n place ⌝ }
 {
     Ok(ranged(n, least, most, place)?.unsigned_abs())
 }
 
+/// The direction of the row at a place.
 fn row(n: i32, place: u32) -> Result<Direction, ViewFault>
     ensures { λ r. ⌜ way-in r ≡ row-answer n place ⌝ }
 {
     Direction::of_row(n).ok_or(ViewFault::Row { place })
 }
 
+/// The numbers at places 1 to 3.
 fn origin(n: ViewNumbers) -> Result<Point, ViewFault>
     ensures { λ r. ⌜ r ≡ origin-answer n ⌝ }
 {
@@ -48,6 +52,7 @@ fn origin(n: ViewNumbers) -> Result<Point, ViewFault>
     Ok(Point { x, y, z })
 }
 
+/// The rows at places 4 to 6.
 fn ways(n: ViewNumbers) -> Result<(Direction, Direction, Direction), ViewFault>
     ensures { λ r. ⌜ ways-in r ≡ ways-answer n ⌝ }
 {
@@ -57,6 +62,7 @@ fn ways(n: ViewNumbers) -> Result<(Direction, Direction, Direction), ViewFault>
     Ok((ray, across, down))
 }
 
+/// The numbers at places 7 to 9.
 fn sizes(n: ViewNumbers) -> Result<(u32, u32, u32), ViewFault>
     ensures { λ r. ⌜ r ≡ sizes-answer n ⌝ }
 {
