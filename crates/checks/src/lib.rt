@@ -1,0 +1,2 @@
+//! Checks of the kit from outside.
+pub mod chained;
