@@ -1,3 +1,8 @@
+pub mod Least
+pub mod Balls
+pub mod Axes
+pub mod Boxes
+pub mod Surfaces
 pub mod Near
 pub mod Kept
 pub mod Piles

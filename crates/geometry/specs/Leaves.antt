@@ -2,10 +2,10 @@
 use mathlib.Core.Bool.{Bool, true, false, cond, _&&_}
 use mathlib.Core.List.{List, [], _∷_}
 use Prim.Native.Nat.{ℕ, zero, suc, _+_, _-_, _*_, max}
-use lib.Dec.{leb, ltb}
+use lib.Dec.{leb}
 use lib.IntN.{ℤ, pos, negsuc, _-ℤ_, natAbs}
 use lib.ListN.{getD}
-use lib.Signed.{ltZ}
+use lib.Signed.{leZ}
 use Rattle.std.specs.Numbers.{maxZ}
 use Rattle.lattice.specs.Space.{gap, dist}
 use Rattle.lattice.specs.declared.Point.{Point}
@@ -31,12 +31,12 @@ fits-at m r p k = fits r (gap (p .x) (m .x)) (gap (p .y) (m .y)) (gap (p .z) (m 
 -- the ball of centre m and radius r: the points whose squared offsets add to at most r squared. The clearance is the smallest k
 -- for which the offsets, each k less, do; at k = dist p m all of them are 0, so there is one.
 abbrev pub ball : Point → ℕ → Body
-ball m r = record
-  { member = λ p. leb (gap (p .x) (m .x) * gap (p .x) (m .x) + gap (p .y) (m .y) * gap (p .y) (m .y) + gap (p .z) (m .z) * gap (p .z) (m .z)) (r * r)
-  ; reach = leaf-reach
-  ; clear = λ p. least (dist p m) (fits-at m r p)
-  ; exact = true
-  }
+ball m r = record {
+  member = λ p. leb (gap (p .x) (m .x) * gap (p .x) (m .x) + gap (p .y) (m .y) * gap (p .y) (m .y) + gap (p .z) (m .z) * gap (p .z) (m .z)) (r * r);
+  reach = leaf-reach;
+  clear = λ p. least (dist p m) (fits-at m r p);
+  exact = true;
+}
 
 -- a difference, or 0 where it is below 0
 abbrev pub rise : ℤ → ℕ
@@ -51,20 +51,22 @@ above a b = rise (a -ℤ b)
 abbrev pub beside : (lo hi : ℤ) → ℤ → ℕ
 beside lo hi a = max (above lo a) (above a hi)
 
-abbrev pub leZ : ℤ → ℤ → Bool
-leZ a b = cond (ltZ b a) false true
-
+-- does a lie in lo..hi?
 abbrev pub between : (lo hi : ℤ) → ℤ → Bool
 between lo hi a = leZ lo a && leZ a hi
 
+-- is lo above hi on no axis?
+abbrev pub ordered : (lo hi : Point) → Bool
+ordered lo hi = leZ (lo .x) (hi .x) && (leZ (lo .y) (hi .y) && leZ (lo .z) (hi .z))
+
 -- the box from lo to hi
 abbrev pub block : (lo hi : Point) → Body
-block lo hi = record
-  { member = λ p. between (lo .x) (hi .x) (p .x) && (between (lo .y) (hi .y) (p .y) && between (lo .z) (hi .z) (p .z))
-  ; reach = leaf-reach
-  ; clear = λ p. max (beside (lo .x) (hi .x) (p .x)) (max (beside (lo .y) (hi .y) (p .y)) (beside (lo .z) (hi .z) (p .z)))
-  ; exact = true
-  }
+block lo hi = record {
+  member = λ p. between (lo .x) (hi .x) (p .x) && (between (lo .y) (hi .y) (p .y) && between (lo .z) (hi .z) (p .z));
+  reach = leaf-reach;
+  clear = λ p. max (beside (lo .x) (hi .x) (p .x)) (max (beside (lo .y) (hi .y) (p .y)) (beside (lo .z) (hi .z) (p .z)));
+  exact = true;
+}
 
 -- the lowest height; a column for which there is no sample has it
 abbrev pub lowest : ℤ
@@ -95,9 +97,9 @@ abbrev pub off-block : (w d : ℕ) → ℤ → Point → ℕ
 off-block w d top p = max (beside (pos 0) (last w) (p .x)) (max (beside (pos 0) (last d) (p .y)) (above (p .z) top))
 
 abbrev pub surface : (w d : ℕ) → List ℤ → Body
-surface w d hs = record
-  { member = in-column w d hs
-  ; reach = leaf-reach
-  ; clear = λ p. cond (in-column w d hs p) 0 (max 1 (off-block w d (greatest (w * d) hs) p))
-  ; exact = false
-  }
+surface w d hs = record {
+  member = in-column w d hs;
+  reach = leaf-reach;
+  clear = λ p. cond (in-column w d hs p) 0 (max 1 (off-block w d (greatest (w * d) hs) p));
+  exact = false;
+}

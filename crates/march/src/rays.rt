@@ -31,6 +31,22 @@ pub struct Marching {
     ghost counted: { probes ≤ t },
 }
 
+impl Marching {
+    /// How far it has come.
+    pub fn t(&self) -> u32
+        ensures { λ r. ⌜ r ≡ now (self .entry) .t ⌝ }
+    {
+        self.t
+    }
+
+    /// How often it has asked.
+    pub fn probes(&self) -> u32
+        ensures { λ r. ⌜ r ≡ now (self .entry) .probes ⌝ }
+    {
+        self.probes
+    }
+}
+
 /// How a ray settled: at the depth of its first contact, or with none up to its end.
 #[derive(Clone, Copy, PartialEq, Eq, Debug)]
 pub enum Outcome {
@@ -107,7 +123,7 @@ pub impl Refusal for RayFault as RayRefusal {
 pub impl From<ViewFault> for RayFault as RayFaultFromView {
     ghost converts = { λ f r. r ≡ View f };
 
-    fn from(fault: ViewFault) -> RayFault {
-        RayFault::View(fault)
+    fn from(cause: ViewFault) -> RayFault {
+        RayFault::View(cause)
     }
 }

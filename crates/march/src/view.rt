@@ -10,6 +10,7 @@ use lattice::direction::DirectionDebug;
 use refusal::Refusal;
 
 pub mod checks;
+pub mod points;
 
 /// The numbers of a view, as a job has them; any numbers at all.
 #[derive(Clone, Copy, PartialEq, Eq, Debug)]
