@@ -1,2 +1,3 @@
 pub mod Worked
 pub mod Empty
+pub mod Chained

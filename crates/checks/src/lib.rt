@@ -3,6 +3,7 @@ ghost use mathlib.Core.Path.{_≡_};
 ghost use lib.ListN.{length};
 ghost use Rattle.checks.specs.Worked.{table, Worked};
 
+pub mod chained;
 #[cfg(test)]
 mod logs;
 pub mod own_make;

@@ -10,3 +10,4 @@ pub mod Upshot
 pub mod Onward
 pub mod Calls
 pub mod Opens
+pub mod Bring

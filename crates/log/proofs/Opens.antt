@@ -4,7 +4,8 @@ use mathlib.Core.Path.{_≡_, sym, ap, _∙_}
 use mathlib.Core.List.{List, _++_}
 use lib.Dec.{ltb}
 use lib.ListN.{length, drop, replicate}
-use Rattle.std.proofs.shelf.Tests.{cond-true, cond-false, lt-ltb, le-ltb}
+use native.Mathlib.Omega.{arith}
+use Rattle.std.proofs.shelf.Tests.{cond-true, cond-false, cond-both, lt-ltb, le-ltb}
 use Rattle.std.specs.declared.result.Result.{Result}
 use Rattle.std.specs.declared.result.Result.the-variants.{Ok, Err}
 use Rattle.march.specs.declared.pixel.Pixel.{Pixel}
@@ -29,3 +30,20 @@ module _ (numbers : ViewNumbers) (old : PlainView) (rs : List Pixel) where
   open-done v qs e h is =
       ap (λ (qs : List Pixel). (Ok tt, v, qs)) is
       ∙ sym (cond-false (ltb (length rs) (v .width * v .height)) _ _ (le-ltb (length rs) (v .width * v .height) h)) ∙ ap (λ (a : Result PlainView ViewFault). opened-by a old rs) e
+
+  -- a plate that was opened has the view of its numbers
+  pub opened-is : (v : PlainView) (qs : List Pixel) → _≡_ {A = Opened} (Ok tt, v, qs) (opening numbers old rs) → Ok v ≡ view-answer numbers
+  opened-is v qs e = from (view-answer numbers) e
+    where
+      not-err : {A : Type 0} (f : PlateFault) (w : PlainView) (xs : List Pixel) → _≡_ {A = Opened} (Ok tt, v, qs) (Err f, w, xs) → A
+      not-err f w xs e =
+          let r : _≡_ {A = Result (Unit {0}) PlateFault} (Ok tt) (Err f) = ap (λ (o : Opened). o .0) e in
+          let z : _≡_ {A = ℕ} 0 1 = cc in
+          absurd (omega arith)
+      from : (a : Result PlainView ViewFault) → _≡_ {A = Opened} (Ok tt, v, qs) (opened-by a old rs) → Ok v ≡ a
+      from (Err f) e = not-err (View f) old rs e
+      from (Ok w) e =
+          cond-both (ltb (length rs) (w .width * w .height)) (Err TooFewRecords, old, rs) (Ok tt, w, replicate (w .width * w .height) fresh ++ drop (w .width * w .height) rs)
+            (λ (o : Opened). _≡_ {A = Opened} (Ok tt, v, qs) o → _≡_ {A = Result PlainView ViewFault} (Ok v) (Ok w))
+            (λ _ e. not-err TooFewRecords old rs e)
+            (λ _ e. ap (λ (o : Opened). Ok (o .1)) e) e

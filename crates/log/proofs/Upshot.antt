@@ -21,8 +21,8 @@ use Rattle.march.proofs.Space.{point-in}
 use Rattle.march.proofs.Ray.{Clears, Rides, sane-on, right-step, Lags, lags-step, lags-ends, takes-some}
 use Rattle.march.proofs.Bodies.{body-clears, body-rides}
 use Rattle.log.specs.Sweep.{past, marching, spent}
-use Rattle.log.specs.Log.{Call, Answer, log, line, opened, stands, pixel, along-ray, clear-at, place, area}
-use Rattle.log.specs.Law.{Brought, Same, Piled, Shows, answered, budgets, Rival, Shown, Held, Settles, Whole}
+use Rattle.log.specs.Log.{Call, Answer, log, line, play, opened, stands, pixel, along-ray, clear-at, place, area}
+use Rattle.log.specs.Law.{Brought, Same, Piled, Shows, answered, budgets, calls-of, Rival, Shown, Held, Settles, Whole}
 use Rattle.log.proofs.Lift.{log-keeps, play-more}
 use Rattle.log.proofs.Place.{place-in, at-pixel, from-pixel}
 use Rattle.log.proofs.Sanity.{new-sane}
@@ -97,11 +97,16 @@ lasting v cs more k e =
     ∙ log-keeps v k (λ p. p ≡ q) (λ _. Unit {0})
     (λ b g d t n h. absurd (both-ways (marches q) e (sym (ap marches h)))) more (stands v cs) (λ _ _. tt) refl
 
+each : (v : View) (cs : List Call) (ps : List Pixel) → calls-of (play v ps cs) ≡ cs
+each v [] ps = refl
+each v (c ∷ cs) ps = ap (λ (ds : List Call). c ∷ ds) (each v cs (line v ps c .1))
+
 piled-told : (M : Point → Bool) (b : Body) → Piled M b → Told M b
 piled-told M b (N, e, pile, same) = (pile-lawful pile, λ p. pile-members pile p ∙ same p)
 
 pub held : (v : View) (cs : List Call) → Held v cs
 held v cs = record {
+  each = each v cs (opened v);
   lines = lines v cs (opened v) (record { long = length-replicate (area v) fresh; sound = new-sane (v .far) (area v) });
   counts = counts v cs;
   ends = ends v cs;

@@ -56,8 +56,15 @@ pub record Shown (v : View) (cs : List Call) (M : Point → Bool) : Type 0 where
   pub shows : (i j : ℕ) → Inside v i j → Shows v M i j (pixel v cs i j)
   pub fewest : (i j : ℕ) → Inside v i j → marches (pixel v cs i j) ≡ false → (r : Body) → Rival v M cs r → (n : ℕ) → Takes (clear-at v r i j) (v .far) 0 n → probes (pixel v cs i j) ≤ n
 
+-- the calls of a log
+abbrev pub calls-of : List Line → List Call
+calls-of [] = []
+calls-of (l ∷ ls) = l .call ∷ calls-of ls
+
 -- what holds after the calls cs, of whatever bodies, but for the last
 pub record Held (v : View) (cs : List Call) : Type 0 where
+  -- the log has a line for each call
+  pub each : calls-of (log v cs) ≡ cs
   -- every line answers and leaves what is fair
   pub lines : Lines v (opened v) (log v cs)
   -- the pixels' probes add up to what was answered as spent
