@@ -10,12 +10,12 @@ abbrev pub empty : ℕ → Body
 empty r = record { member = λ p. false; reach = r; clear = λ p. 1; exact = false }
 
 pub empty-lawful : (r : ℕ) → r ≤ 1048576 → Lawful (empty r)
-empty-lawful r h = record
-  { near-enough = h
-  ; small = λ p i. omega arith
-  ; inside = λ p i m. absurd (false≢true m)
-  ; outside = λ p i z. absurd (omega arith)
-  ; none-nearer = λ p q i m. absurd (false≢true m)
-  ; slope = λ p q i j. omega arith
-  ; touched = λ x. absurd (false≢true x)
-  }
+empty-lawful r h = record {
+  near-enough = h;
+  small = λ p i. omega arith;
+  inside = λ p i m. absurd (false≢true m);
+  outside = λ p i z. absurd (omega arith);
+  none-nearer = λ p q i m. absurd (false≢true m);
+  slope = λ p q i j. omega arith;
+  touched = λ x. absurd (false≢true x);
+}

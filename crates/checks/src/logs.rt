@@ -22,7 +22,15 @@ fn at(x: i32, y: i32, z: i32) -> Point {
 
 /// Straight down from height 100.
 fn view(width: i32, height: i32, far: i32) -> ViewNumbers {
-    ViewNumbers { origin: at(0, 0, 100), ray: 12, across: 22, down: 16, width, height, far }
+    ViewNumbers {
+        origin: at(0, 0, 100),
+        ray: 12,
+        across: 22,
+        down: 16,
+        width,
+        height,
+        far,
+    }
 }
 
 const UNTOUCHED: Pixel = Pixel::Miss { probes: 9 };
@@ -40,7 +48,13 @@ fn budgets_of_none_of_one_and_of_just_enough() -> Result<(), Fail> {
     check_eq(plate.read(1, 0), Ok(Pixel::Marching { t: 0, probes: 0 }))?;
     check_eq(plate.sweep(&stock, 3), Ok((3, 0)))?;
     check_eq(plate.sweep(&stock, u32::MAX), Ok((0, 0)))?;
-    check_eq(plate.read(1, 0), Ok(Pixel::Hit { depth: 100, probes: 2 }))?;
+    check_eq(
+        plate.read(1, 0),
+        Ok(Pixel::Hit {
+            depth: 100,
+            probes: 2,
+        }),
+    )?;
     check_eq(records[2], UNTOUCHED)
 }
 
@@ -51,11 +65,20 @@ fn refused_calls_change_nothing() -> Result<(), Fail> {
     let mut plate = Plate::new(&mut records);
     check_eq(plate.read(0, 0), Err(PlateFault::NoPixel))?;
     check_eq(plate.open(view(3, 1, 100)), Err(PlateFault::TooFewRecords))?;
-    check_eq(plate.open(view(65, 1, 100)), Err(PlateFault::View(ViewFault::Range { place: 7 })))?;
+    check_eq(
+        plate.open(view(65, 1, 100)),
+        Err(PlateFault::View(ViewFault::Range { place: 7 })),
+    )?;
     check_eq(plate.open(view(1, 2, 99)), Ok(()))?;
     check_eq(plate.sweep(&Empty::new(32766), 5), Err(PlateFault::Shallow))?;
-    check_eq(plate.touch(1, 0, &Empty::new(32766), 5), Err(PlateFault::NoPixel))?;
-    check_eq(plate.touch(0, 1, &Empty::new(32766), 5), Err(PlateFault::Shallow))?;
+    check_eq(
+        plate.touch(1, 0, &Empty::new(32766), 5),
+        Err(PlateFault::NoPixel),
+    )?;
+    check_eq(
+        plate.touch(0, 1, &Empty::new(32766), 5),
+        Err(PlateFault::Shallow),
+    )?;
     let mut out = [7; 16];
     check_eq(plate.write(&mut out), Err(PlateFault::StillMarching))?;
     check_eq(plate.touch(0, 1, &stock, u32::MAX), Ok((1, 0)))?;
@@ -64,7 +87,10 @@ fn refused_calls_change_nothing() -> Result<(), Fail> {
     check_eq(plate.write(&mut out[0..15]), Err(PlateFault::NoRoom))?;
     check_eq(out, [7; 16])?;
     check_eq(plate.write(&mut out), Ok(16))?;
-    check_eq(out, [2, 0, 1, 0xa0, 99, 0, 0, 0x20, 1, 0, 0, 0xc0, 1, 0, 0, 0xc0])
+    check_eq(
+        out,
+        [2, 0, 1, 0xa0, 99, 0, 0, 0x20, 1, 0, 0, 0xc0, 1, 0, 0, 0xc0],
+    )
 }
 
 #[test]
@@ -76,8 +102,20 @@ fn another_solid_in_mid_work_and_opened_anew() -> Result<(), Fail> {
     check_eq(plate.open(view(2, 2, 100)), Ok(()))?;
     check_eq(plate.touch(0, 0, &clamp, u32::MAX), Ok((2, 0)))?;
     check_eq(plate.sweep(&stock, u32::MAX), Ok((6, 0)))?;
-    check_eq(plate.read(0, 0), Ok(Pixel::Hit { depth: 40, probes: 2 }))?;
-    check_eq(plate.read(1, 1), Ok(Pixel::Hit { depth: 100, probes: 2 }))?;
+    check_eq(
+        plate.read(0, 0),
+        Ok(Pixel::Hit {
+            depth: 40,
+            probes: 2,
+        }),
+    )?;
+    check_eq(
+        plate.read(1, 1),
+        Ok(Pixel::Hit {
+            depth: 100,
+            probes: 2,
+        }),
+    )?;
     check_eq(plate.open(view(1, 1, 3)), Ok(()))?;
     check_eq(plate.read(0, 0), Ok(Pixel::Marching { t: 0, probes: 0 }))?;
     check_eq(plate.sweep(&Empty::new(32767), 3), Ok((3, 1)))?;

@@ -21,7 +21,9 @@ impl Empty {
     pub fn new(reach: u32) -> Empty
         ensures { λ r. ⌜ r .reach ≡ min reach 1048576 ⌝ }
     {
-        Empty { reach: reach.min(MOST_REACH) }
+        Empty {
+            reach: reach.min(MOST_REACH),
+        }
     }
 }
 

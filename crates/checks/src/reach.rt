@@ -23,7 +23,15 @@ fn along_x(x: i32) -> Point {
 }
 
 fn one_pixel() -> ViewNumbers {
-    ViewNumbers { origin: along_x(0), ray: 12, across: 22, down: 16, width: 1, height: 1, far: 10 }
+    ViewNumbers {
+        origin: along_x(0),
+        ray: 12,
+        across: 22,
+        down: 16,
+        width: 1,
+        height: 1,
+        far: 10,
+    }
 }
 
 /// The number by which a step over the solid is refused, or 0.
@@ -62,8 +70,14 @@ fn a_shift_takes_from_the_reach() -> Result<(), Fail> {
 fn a_question_is_answered_within_the_reach() -> Result<(), Fail> {
     let solid = Empty::new(100);
     check_eq(solid.clearance(along_x(-100)), Ok(1))?;
-    check_eq(solid.clearance(along_x(101)), Err(QuestionFault::BeyondReach))?;
-    check_eq(solid.clearance(along_x(i32::MIN)), Err(QuestionFault::BeyondReach))
+    check_eq(
+        solid.clearance(along_x(101)),
+        Err(QuestionFault::BeyondReach),
+    )?;
+    check_eq(
+        solid.clearance(along_x(i32::MIN)),
+        Err(QuestionFault::BeyondReach),
+    )
 }
 
 #[test]

@@ -30,13 +30,17 @@ impl Point {
     pub fn norm(self) -> u32
         ensures { λ r. ⌜ r ≡ norm self ⌝ }
     {
-        self.x.unsigned_abs().max(self.y.unsigned_abs().max(self.z.unsigned_abs()))
+        self.x
+            .unsigned_abs()
+            .max(self.y.unsigned_abs().max(self.z.unsigned_abs()))
     }
 
     /// Is no part above `reach` in size?
     pub fn within(self, reach: u32) -> bool
         ensures { λ r. ⌜ r ≡ within reach self ⌝ }
     {
-        self.x.unsigned_abs() <= reach && self.y.unsigned_abs() <= reach && self.z.unsigned_abs() <= reach
+        self.x.unsigned_abs() <= reach
+            && self.y.unsigned_abs() <= reach
+            && self.z.unsigned_abs() <= reach
     }
 }

@@ -4,6 +4,7 @@ use layers::Cap;
 use layers::CapSolid;
 use layers::LayerFault;
 use layers::LayerFaultDebug;
+use layers::LayerRefusal;
 use layers::Meet;
 use layers::MeetSolid;
 use layers::Shift;
@@ -16,23 +17,22 @@ use layers::Unite;
 use layers::UniteExact;
 use layers::UniteSolid;
 use leaves::axis_box::AxisBox;
+use leaves::axis_box::AxisBoxExact;
+use leaves::axis_box::AxisBoxSolid;
 use leaves::ball::Ball;
+use leaves::ball::BallExact;
 use leaves::fault::LeafFault;
+use leaves::fault::LeafRefusal;
 use march::rays::Marching;
 use march::rays::Outcome;
+use march::rays::RayRefusal;
 use march::rays::Settled;
+use march::rays::StepRefusal;
 use march::rays::Stepped;
 use march::view::ViewNumbers;
 use refusal::Refusal;
 use solid::Solid;
 use std::error::AnyError;
-use march::rays::RayRefusal;
-use march::rays::StepRefusal;
-use layers::LayerRefusal;
-use leaves::axis_box::AxisBoxExact;
-use leaves::axis_box::AxisBoxSolid;
-use leaves::ball::BallExact;
-use leaves::fault::LeafRefusal;
 
 mod played;
 
@@ -44,7 +44,12 @@ fn point(x: i32, y: i32, z: i32) -> Point {
 }
 
 fn refused<F: Refusal>(rt: &LibcRuntime, what: &str, fault: &F) -> Result<(), AnyError> {
-    println!(rt, "{what} is refused: number {}, place {}", fault.number(), fault.place())?;
+    println!(
+        rt,
+        "{what} is refused: number {}, place {}",
+        fault.number(),
+        fault.place()
+    )?;
     Ok(())
 }
 
@@ -57,7 +62,13 @@ fn settled(rt: &LibcRuntime, ray: Settled) -> Result<(), AnyError> {
 }
 
 /// Sends the ray of pixel (i, j), and tells each probe.
-fn send<S: Solid>(rt: &LibcRuntime, pile: &S, view: ViewNumbers, i: u32, j: u32) -> Result<(), AnyError> {
+fn send<S: Solid>(
+    rt: &LibcRuntime,
+    pile: &S,
+    view: ViewNumbers,
+    i: u32,
+    j: u32,
+) -> Result<(), AnyError> {
     let mut ray = match Marching::new(view, i, j) {
         Ok(ray) => ray,
         Err(fault) => return refused(rt, "the ray", &fault),
@@ -66,7 +77,14 @@ fn send<S: Solid>(rt: &LibcRuntime, pile: &S, view: ViewNumbers, i: u32, j: u32)
     for _ in 0..MOST_STEPS {
         let at = ray.tip();
         if let Ok(c) = pile.clearance(at) {
-            println!(rt, "  t {}: at ({}, {}, {}) the clearance is {c}", ray.t(), at.x, at.y, at.z)?;
+            println!(
+                rt,
+                "  t {}: at ({}, {}, {}) the clearance is {c}",
+                ray.t(),
+                at.x,
+                at.y,
+                at.z
+            )?;
         }
         match ray.step(pile) {
             Ok(stepped) => match stepped {
@@ -99,7 +117,10 @@ fn send_all(rt: &LibcRuntime) -> Result<(), AnyError> {
     let grown = made(Thicken::new(Unite::new(boss, clamp), 2))?;
     let clip = made(AxisBox::new(point(-100, -100, -100), point(100, 100, 100)))?;
     let pile = made(Cap::new(Meet::new(clip, grown), 64))?;
-    println!(rt, "the pile: cap 64 over meet of a clip box with thicken 2 over unite of a ball and a shifted box")?;
+    println!(
+        rt,
+        "the pile: cap 64 over meet of a clip box with thicken 2 over unite of a ball and a shifted box"
+    )?;
     let view = ViewNumbers {
         origin: point(-40, 0, 200),
         ray: 12,

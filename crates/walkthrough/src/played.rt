@@ -3,26 +3,28 @@ use super::made;
 use super::point;
 use super::refused;
 use layers::Unite;
-use leaves::axis_box::AxisBox;
-use leaves::surface::Sheet;
-use leaves::surface::Surface;
-use log::fault::PlateFault;
-use march::pixel::Pixel;
-use march::view::ViewNumbers;
-use plate::Plate;
-use solid::Solid;
-use std::error::AnyError;
 use layers::UniteSolid;
+use leaves::axis_box::AxisBox;
 use leaves::axis_box::AxisBoxSolid;
 use leaves::fault::LeafRefusal;
 use leaves::fault::SurfaceRefusal;
+use leaves::surface::Sheet;
+use leaves::surface::Surface;
 use leaves::surface::SurfaceSolid;
+use log::fault::PlateFault;
 use log::fault::PlateRefusal;
+use march::pixel::Pixel;
+use march::view::ViewNumbers;
+use plate::Plate;
 use solid::LentSolid;
+use solid::Solid;
+use std::error::AnyError;
 
 /// The sides of the plate, and its records: one for each pixel, and one that stays as it is.
 const WIDTH: u32 = 4;
+
 const HEIGHT: u32 = 2;
+
 const RECORDS: usize = 9;
 /// The bytes of the plate's image: 4 for each of its two first words, and 4 a pixel.
 const IMAGE: usize = 40;
@@ -30,7 +32,11 @@ const IMAGE: usize = 40;
 const SHORT: usize = 39;
 
 /// What a sweep or a touch answered.
-fn counted(rt: &LibcRuntime, what: &str, answer: Result<(u32, u32), PlateFault>) -> Result<(), AnyError> {
+fn counted(
+    rt: &LibcRuntime,
+    what: &str,
+    answer: Result<(u32, u32), PlateFault>,
+) -> Result<(), AnyError> {
     match answer {
         Ok((spent, left)) => println!(rt, "{what}: {spent} probes spent, {left} still marching")?,
         Err(fault) => return refused(rt, what, &fault),
@@ -76,8 +82,16 @@ fn write_into(rt: &LibcRuntime, plate: &Plate, out: &mut [u8]) -> Result<(), Any
 }
 
 /// The first part of the log, over the stock under its clamp.
-fn under_the_clamp<S: Solid>(rt: &LibcRuntime, plate: &mut Plate, clamped: &S) -> Result<(), AnyError> {
-    counted(rt, "sweep over stock and clamp, budget 7", plate.sweep(clamped, 7))?;
+fn under_the_clamp<S: Solid>(
+    rt: &LibcRuntime,
+    plate: &mut Plate,
+    clamped: &S,
+) -> Result<(), AnyError> {
+    counted(
+        rt,
+        "sweep over stock and clamp, budget 7",
+        plate.sweep(clamped, 7),
+    )?;
     let mut out = [0; IMAGE];
     write_into(rt, plate, &mut out)?;
     read_all(rt, plate)
@@ -85,9 +99,21 @@ fn under_the_clamp<S: Solid>(rt: &LibcRuntime, plate: &mut Plate, clamped: &S) -
 
 /// The rest of it, over the stock alone.
 fn without_it<S: Solid>(rt: &LibcRuntime, plate: &mut Plate, stock: &S) -> Result<(), AnyError> {
-    counted(rt, "touch (3, 1) over the stock, budget 2", plate.touch(3, 1, stock, 2))?;
-    counted(rt, "touch (4, 1) over the stock, budget 2", plate.touch(4, 1, stock, 2))?;
-    counted(rt, "sweep over the stock, no bound", plate.sweep(stock, u32::MAX))?;
+    counted(
+        rt,
+        "touch (3, 1) over the stock, budget 2",
+        plate.touch(3, 1, stock, 2),
+    )?;
+    counted(
+        rt,
+        "touch (4, 1) over the stock, budget 2",
+        plate.touch(4, 1, stock, 2),
+    )?;
+    counted(
+        rt,
+        "sweep over the stock, no bound",
+        plate.sweep(stock, u32::MAX),
+    )?;
     let mut short = [0; SHORT];
     write_into(rt, plate, &mut short)?;
     let mut out = [0; IMAGE];
