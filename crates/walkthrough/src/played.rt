@@ -89,8 +89,8 @@ fn under_the_clamp<S: Solid>(
 ) -> Result<(), AnyError> {
     counted(
         rt,
-        "sweep over stock and clamp, budget 7",
-        plate.sweep(clamped, 7),
+        "sweep over stock and clamp, budget 10",
+        plate.sweep(clamped, 10),
     )?;
     let mut out = [0; IMAGE];
     write_into(rt, plate, &mut out)?;
