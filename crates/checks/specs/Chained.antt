@@ -20,6 +20,6 @@ pub record Picture (v : View) (a b : Body) (m n i j : ℕ) (q : Pixel) : Type 0 
   pub shows : (M : Point → Bool) → Same (a .member) M → Same (b .member) M → Shows v M i j q
   -- and took no more probes than a body of the same members that clears no more than either
   pub fewest : (M : Point → Bool) → Same (a .member) M → Same (b .member) M → marches q ≡ false
-    → (r : Body) → Lawful r → 32767 ≤ r .reach → Same (r .member) M
-    → ((p : Point) → In 32767 p → (r .clear p ≤ a .clear p) × (r .clear p ≤ b .clear p))
-    → (k : ℕ) → Takes (clear-at v r i j) (v .far) 0 k → probes q ≤ k
+      → (r : Body) → Lawful r → 32767 ≤ r .reach → Same (r .member) M
+      → ((p : Point) → In 32767 p → (r .clear p ≤ a .clear p) × (r .clear p ≤ b .clear p))
+      → (k : ℕ) → Takes (clear-at v r i j) (v .far) 0 k → probes q ≤ k

@@ -64,19 +64,19 @@ from-above b far end = ends b (at (pos 0) (pos 0) (pos 100)) plumb-down far end
 abbrev pub table : List Row
 table =
     clears five (at (pos 10) (pos 10) (pos 0)) 7
-  ∷ clears five (at (pos 10) (pos 10) (pos 10)) 8
-  ∷ clears five (at (pos 3) (pos 4) (pos 0)) 0
-  ∷ clears five (at (pos 3) (pos 4) (pos 1)) 1
-  ∷ clears cube (at (pos 5) (pos 1) (negsuc 6)) 7
-  ∷ clears (thicken 3 cube) (at (pos 5) (pos 1) (negsuc 6)) 4
-  ∷ clears (thicken 3 cube) (at (pos 5) (pos 1) (pos 1)) 0
-  ∷ clears sheet (at (pos 1) (pos 0) (pos 2)) 1
-  ∷ clears sheet (at (pos 1) (pos 0) (pos 9)) 6
-  ∷ from-above stock 100 (Hit 100 2)
-  ∷ from-above (capped 64 stock) 100 (Hit 100 3)
-  ∷ from-above stock 99 (Miss 1)
-  ∷ from-above (capped 64 stock) 99 (Miss 2)
-  ∷ []
+    ∷ clears five (at (pos 10) (pos 10) (pos 10)) 8
+    ∷ clears five (at (pos 3) (pos 4) (pos 0)) 0
+    ∷ clears five (at (pos 3) (pos 4) (pos 1)) 1
+    ∷ clears cube (at (pos 5) (pos 1) (negsuc 6)) 7
+    ∷ clears (thicken 3 cube) (at (pos 5) (pos 1) (negsuc 6)) 4
+    ∷ clears (thicken 3 cube) (at (pos 5) (pos 1) (pos 1)) 0
+    ∷ clears sheet (at (pos 1) (pos 0) (pos 2)) 1
+    ∷ clears sheet (at (pos 1) (pos 0) (pos 9)) 6
+    ∷ from-above stock 100 (Hit 100 2)
+    ∷ from-above (capped 64 stock) 100 (Hit 100 3)
+    ∷ from-above stock 99 (Miss 1)
+    ∷ from-above (capped 64 stock) 99 (Miss 2)
+    ∷ []
 
 abbrev pub Worked : Type 0
 Worked = all-hold table ≡ true

@@ -13,7 +13,16 @@ use plate::Plate;
 use solid::Solid;
 
 /// Sweeps over one solid and then over another, and reads a pixel.
-pub fn two_sweeps<A: Solid, B: Solid>(records: &mut [Pixel], numbers: ViewNumbers, a: &A, b: &B, m: u32, n: u32, i: u32, j: u32) -> Result<Pixel, PlateFault>
+pub fn two_sweeps<A: Solid, B: Solid>(
+    records: &mut [Pixel],
+    numbers: ViewNumbers,
+    a: &A,
+    b: &B,
+    m: u32,
+    n: u32,
+    i: u32,
+    j: u32,
+) -> Result<Pixel, PlateFault>
     ensures { λ r. ⌜ Cases r (λ q. (v : View) × (Ok (plain-view v) ≡ view-answer numbers) × Picture v (A·Solid .body (now (a .entry))) (B·Solid .body (now (b .entry))) m n i j q) (λ _. Unit {0}) ⌝ }
 {
     let mut plate = Plate::new(records);

@@ -41,6 +41,6 @@ carried v b (c ∷ cs) ps x = elim (brought-cases x) [ inl e ↦ inl e | inr y �
 -- what a read told is the pixel as it stands
 pub told-is : (v : View) (ps : List Pixel) (i j : ℕ) (q : Pixel) → line v ps (reading i j) .0 ≡ told q → Inside v i j × (q ≡ pixel-in v ps i j)
 told-is v ps i j q =
-  cond-both (has v i j) (told (pixel-in v ps i j), ps) (refused NoPixel, ps) (λ (r : Answer × List Pixel). r .0 ≡ told q → Inside v i j × (q ≡ pixel-in v ps i j))
+    cond-both (has v i j) (told (pixel-in v ps i j), ps) (refused NoPixel, ps) (λ (r : Answer × List Pixel). r .0 ≡ told q → Inside v i j × (q ≡ pixel-in v ps i j))
     (λ h e. (has-parts v i j h, cc))
     (λ _ e. let z : _≡_ {A = ℕ} 0 1 = cc in absurd (omega arith))

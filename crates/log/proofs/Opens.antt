@@ -40,10 +40,11 @@ module _ (numbers : ViewNumbers) (old : PlainView) (rs : List Pixel) where
           let r : _≡_ {A = Result (Unit {0}) PlateFault} (Ok tt) (Err f) = ap (λ (o : Opened). o .0) e in
           let z : _≡_ {A = ℕ} 0 1 = cc in
           absurd (omega arith)
+
       from : (a : Result PlainView ViewFault) → _≡_ {A = Opened} (Ok tt, v, qs) (opened-by a old rs) → Ok v ≡ a
       from (Err f) e = not-err (View f) old rs e
       from (Ok w) e =
           cond-both (ltb (length rs) (w .width * w .height)) (Err TooFewRecords, old, rs) (Ok tt, w, replicate (w .width * w .height) fresh ++ drop (w .width * w .height) rs)
-            (λ (o : Opened). _≡_ {A = Opened} (Ok tt, v, qs) o → _≡_ {A = Result PlainView ViewFault} (Ok v) (Ok w))
-            (λ _ e. not-err TooFewRecords old rs e)
-            (λ _ e. ap (λ (o : Opened). Ok (o .1)) e) e
+          (λ (o : Opened). _≡_ {A = Opened} (Ok tt, v, qs) o → _≡_ {A = Result PlainView ViewFault} (Ok v) (Ok w))
+          (λ _ e. not-err TooFewRecords old rs e)
+          (λ _ e. ap (λ (o : Opened). Ok (o .1)) e) e
