@@ -6,7 +6,7 @@ ghost use lib.IntN.{natAbs};
 pub mod rows;
 
 /// A way to one of a point's 26 neighbours.
-#[derive(Clone, Copy, Debug)]
+#[derive(Clone, Copy)]
 pub struct Direction {
     pub x: i32,
     pub y: i32,

@@ -3,17 +3,14 @@ ghost use Prim.Native.Nat.{_≤_};
 ghost use lib.IntN.{natAbs};
 ghost use Rattle.march.specs.Told.{view-told};
 use lattice::Point;
-use lattice::PointDebug;
-use lattice::PointPartialEq;
 use lattice::direction::Direction;
-use lattice::direction::DirectionDebug;
 use refusal::Refusal;
 
 pub mod checks;
 pub mod points;
 
 /// The numbers of a view, as a job has them; any numbers at all.
-#[derive(Clone, Copy, PartialEq, Eq, Debug)]
+#[derive(Clone, Copy)]
 pub struct ViewNumbers {
     pub origin: Point,
     /// Rows of the table of directions.
@@ -27,7 +24,7 @@ pub struct ViewNumbers {
 
 /// A view whose numbers are in range. Pixel (i, j) starts at origin + i across + j down; its ray
 /// is the points start + t ray, for t = 0..far. Every such point lies in the working range.
-#[derive(Clone, Copy, Debug)]
+#[derive(Clone, Copy)]
 pub struct View {
     pub origin: Point,
     pub ray: Direction,
