@@ -46,7 +46,7 @@ beside-between lo hi a e = and-from (leZ lo a) (leZ a hi) (above-le lo a (omega 
 abbrev pub nearest : (lo hi a : ℤ) → ℤ
 nearest lo hi a = (a +ℤ pos (above lo a)) -ℤ pos (above a hi)
 
-module _ (lo hi a : ℤ) (l : lo ≤ℤ hi) where
+module _ (lo hi a : ℤ) (l : leZ lo hi ≡ true) where
   pub nearest-between : between lo hi (nearest lo hi a) ≡ true
   nearest-between =
       let low = rise-is (lo -ℤ a) in
@@ -57,3 +57,6 @@ module _ (lo hi a : ℤ) (l : lo ≤ℤ hi) where
 
   pub gap-nearest : gap a (nearest lo hi a) ≡ beside lo hi a
   gap-nearest = omega (arith, ints, rise-is (lo -ℤ a), rise-is (a -ℤ hi))
+
+pub between-in : (lo hi a : ℤ) → between lo hi a ≡ true → (lo ≤ℤ a) × (a ≤ℤ hi)
+between-in lo hi a e = let f = and-parts (leZ lo a) (leZ a hi) e in (omega (arith, ints, le-true lo a (f .0)), omega (arith, ints, le-true a hi (f .1)))

@@ -8,13 +8,16 @@ use native.Mathlib.Nat.{mul-le-mul, sub-zero}
 use lib.Dec.{leb}
 use lib.IntN.{ℤ, natAbs}
 use borrow.Author.Differences.{ints}
-use Rattle.std.proofs.shelf.Tests.{leb-true, le-leb, lt-leb, cases-lt}
-use Rattle.lattice.specs.Space.{gap, dist, In}
+use Rattle.std.specs.declared.result.Result.the-variants.{Ok, Err}
+use Rattle.std.proofs.shelf.Tests.{leb-true, le-leb, lt-leb, cases-lt, cond-true}
+use Rattle.lattice.specs.Space.{gap, dist, within, In}
 use Rattle.lattice.specs.declared.Point.{Point}
 use Rattle.lattice.proofs.Distance.{gap-triangle}
 use Rattle.lattice.proofs.Toward.{toward, go, toward-gap, dist-go}
+use Rattle.solid.specs.declared.QuestionFault.the-variants.{BeyondReach}
+use Rattle.solid.specs.Answer.{answer}
 use Rattle.solid.specs.Body.{Lawful}
-use Rattle.geometry.specs.Leaves.{least, fits, fits-at, ball}
+use Rattle.geometry.specs.Leaves.{leaf-reach, least, fits, fits-at, ball}
 use Rattle.geometry.specs.Stands.{Smallest-stands}
 use Rattle.geometry.proofs.Least.{least-most, least-holds, least-first}
 
@@ -57,7 +60,8 @@ fits-none : (r a b c : ℕ) → fits r a b c 0 ≡ leb (a * a + b * b + c * c) (
 unfolding fits
 fits-none r a b c = simp sub-zero
 
-wide : (a m : ℤ) → natAbs a ≤ 1048576 → natAbs m ≤ 16384 → gap a m ≤ 1064960
+-- an offset from a centre, within the reach
+pub wide : (a m : ℤ) → natAbs a ≤ 1048576 → natAbs m ≤ 16384 → gap a m ≤ 1064960
 wide a m l k = omega (arith, ints)
 
 module _ (m : Point) (r : ℕ) where
@@ -100,3 +104,8 @@ module _ (m : Point) (r : ℕ) where
 pub smallest-stands : Smallest-stands
 unfolding fits
 smallest-stands m p r = (leb-true _ _ (least-holds (dist p m) (fits-at m r p) (fits-end m r p)), λ k h. least-first (dist p m) (fits-at m r p) k (le-leb _ _ h))
+
+-- what the ball answers within its reach, from the offsets and the smallest number that fits
+pub ball-asked : (m p : Point) (r x a b c : ℕ) → within leaf-reach p ≡ true → a ≡ gap (p .x) (m .x) → b ≡ gap (p .y) (m .y) → c ≡ gap (p .z) (m .z) → x ≡ least (max a (max b c)) (fits r a b c) → Ok x ≡ answer (ball m r) p
+ball-asked m p r x a b c w ea eb ec e =
+    ap Ok (e ∙ λ t. least (max (ea t) (max (eb t) (ec t))) (fits r (ea t) (eb t) (ec t))) ∙ sym (cond-true (within leaf-reach p) (Ok (ball m r .clear p)) (Err BeyondReach) w)

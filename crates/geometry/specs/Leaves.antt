@@ -55,6 +55,10 @@ beside lo hi a = max (above lo a) (above a hi)
 abbrev pub between : (lo hi : ℤ) → ℤ → Bool
 between lo hi a = leZ lo a && leZ a hi
 
+-- is lo above hi on no axis?
+abbrev pub ordered : (lo hi : Point) → Bool
+ordered lo hi = leZ (lo .x) (hi .x) && (leZ (lo .y) (hi .y) && leZ (lo .z) (hi .z))
+
 -- the box from lo to hi
 abbrev pub block : (lo hi : Point) → Body
 block lo hi = record {
