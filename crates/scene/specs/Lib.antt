@@ -1,0 +1,4 @@
+pub mod Standing
+pub mod DraftTold
+pub mod Laid
+pub mod States
