@@ -14,9 +14,9 @@ use Rattle.layers.specs.declared.LayerFault.the-variants.{Range, PastReach}
 abbrev pub part-fits : ℤ → Bool
 part-fits a = leb (natAbs a) 16383
 
--- each part is looked at in its order, then the reach below
-abbrev pub shift-made : {A : Type 0} → (reach : ℕ) → Point → A → Result A LayerFault
-shift-made reach v made = cond (part-fits (v .x)) (cond (part-fits (v .y)) (cond (part-fits (v .z)) (cond (leb (norm v) reach) (Ok made) (Err PastReach)) (Err (Range 3))) (Err (Range 2))) (Err (Range 1))
+-- each part of an offset is looked at in its order, then the reach below
+abbrev pub offset-checked : (reach : ℕ) → Point → Result Unit LayerFault
+offset-checked reach v = cond (part-fits (v .x)) (cond (part-fits (v .y)) (cond (part-fits (v .z)) (cond (leb (norm v) reach) (Ok tt) (Err PastReach)) (Err (Range 3))) (Err (Range 2))) (Err (Range 1))
 
 -- a number in least..most is taken; it is the call's first
 abbrev pub ranged : (least most : ℕ) → ℤ → Result ℕ LayerFault
@@ -35,6 +35,10 @@ cap-number = ranged 1 2097151
 abbrev pub mapped : {A B : Type 0} → (A → B) → Result A LayerFault → Result B LayerFault
 mapped f (Ok a) = Ok (f a)
 mapped f (Err e) = Err e
+
+-- a shift by an offset that passes the checks
+abbrev pub shift-made : {A : Type 0} → (reach : ℕ) → Point → A → Result A LayerFault
+shift-made reach v made = mapped (λ _. made) (offset-checked reach v)
 
 -- the parts of a cap
 abbrev pub parts : {A : Type 0} → A → ℕ → A × ℕ
