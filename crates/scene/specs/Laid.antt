@@ -11,7 +11,7 @@ use Rattle.solid.specs.Body.{Body}
 use Rattle.geometry.specs.Leaves.{ball, block}
 use Rattle.geometry.specs.Layers.{shift, thicken}
 use Rattle.leaves.specs.Made.{ball-made, box-made}
-use Rattle.layers.specs.Made.{shift-made, thicken-number}
+use Rattle.layers.specs.Made.{offset-checked, thicken-number}
 use Rattle.scene.specs.declared.draft.DraftFault.{DraftFault}
 use Rattle.scene.specs.declared.draft.DraftFault.the-variants.{TooFew, Inexact, Leaf, Layer}
 
@@ -34,7 +34,7 @@ two-on f (b ∷ (a ∷ s)) = Ok (f a b ∷ s)
 -- a shift takes the last one, and must not pass its reach
 abbrev pub shift-on : Point → List Body → Laid
 shift-on v [] = Err TooFew
-shift-on v (a ∷ s) = mapped (λ (b : Body). b ∷ s) Layer (shift-made (a .reach) v (shift v a))
+shift-on v (a ∷ s) = mapped (λ _. shift v a ∷ s) Layer (offset-checked (a .reach) v)
 
 -- a thickening takes the last one, which must be exact
 abbrev pub thicken-on : ℤ → List Body → Laid

@@ -3,13 +3,15 @@ use mathlib.Core.Bool.{cond}
 use mathlib.Core.List.{List, [], _∷_}
 use Prim.Native.Nat.{ℕ, _+_}
 use lib.Dec.{ltb}
+use Rattle.std.specs.Results.{andOther}
 use Rattle.std.specs.declared.result.Result.{Result}
 use Rattle.std.specs.declared.result.Result.the-variants.{Ok, Err}
 use Rattle.solid.specs.Body.{Body}
 use Rattle.scene.specs.declared.draft.Draft.{Draft}
 use Rattle.scene.specs.declared.draft.DraftFault.{DraftFault}
-use Rattle.scene.specs.declared.draft.DraftFault.the-variants.{Full, Unfinished}
-use Rattle.scene.specs.Standing.{standing}
+use Rattle.scene.specs.declared.draft.DraftFault.the-variants.{Full, TooFew, Unfinished}
+use Rattle.scene.specs.declared.node.Summary.{Summary}
+use Rattle.scene.specs.Standing.{standing, summed}
 use Rattle.scene.specs.Laid.{Laid}
 
 abbrev pub State : Type 0
@@ -23,12 +25,25 @@ abbrev pub outcome : Laid → State → Result Unit DraftFault × State
 outcome (Ok t) x = (Ok tt, (x .0 + 1, t))
 outcome (Err e) x = (Err e, x)
 
--- a node finds room among 256, and is laid down
-abbrev pub lay : (List Body → Laid) → State → Result Unit DraftFault × State
-lay on x = cond (ltb (x .0) 256) (outcome (on (x .1)) x) (Err Full, x)
+-- there are at most 256 nodes
+abbrev pub room : ℕ → Result Unit DraftFault
+room n = cond (ltb n 256) (Ok tt) (Err Full)
 
--- a scene is filled where one node alone stands, and else keeps the body that it had
-abbrev pub filled : List Body → Body → Result Unit DraftFault × Body
-filled [] old = (Err Unfinished, old)
-filled (b ∷ []) old = (Ok tt, b)
-filled (b ∷ (a ∷ s)) old = (Err Unfinished, old)
+-- a node finds room, and is laid down
+abbrev pub lay : (List Body → Laid) → State → Result Unit DraftFault × State
+lay on x = outcome (andOther (room (x .0)) (on (x .1))) x
+
+-- what is known of the last that stands, of the last two, and of one that stands alone
+abbrev pub last-of : List Body → Result Summary DraftFault
+last-of [] = Err TooFew
+last-of (a ∷ s) = Ok (summed a)
+
+abbrev pub last-two : List Body → Result (Summary × Summary) DraftFault
+last-two [] = Err TooFew
+last-two (b ∷ []) = Err TooFew
+last-two (b ∷ (a ∷ s)) = Ok (summed a, summed b)
+
+abbrev pub only : List Body → Result Summary DraftFault
+only [] = Err Unfinished
+only (b ∷ []) = Ok (summed b)
+only (b ∷ (a ∷ s)) = Err Unfinished

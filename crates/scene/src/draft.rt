@@ -25,7 +25,7 @@ mod laying;
 /// A scene that is being built: its nodes so far, and a summary of each body that stands.
 #[derive(Drop)]
 pub struct Draft {
-    table: Table,
+    pub(crate) table: Table,
     summaries: [Summary; MOST_NODES],
     height: usize,
     ghost room: { height ≤ 256 },

@@ -19,7 +19,7 @@ pub const MOST_NODES: usize = 256;
 #[derive(Clone, Copy)]
 pub struct Table {
     nodes: [Node; MOST_NODES],
-    count: usize,
+    pub(crate) count: usize,
     ghost room: { count ≤ 256 },
     ghost sound: { (k : ℕ) → k < count → fits (getD nodes k Unite) (standing nodes k) ≡ true },
 }
@@ -38,6 +38,27 @@ fn moved_back(p: Point, by: Point) -> Point
 }
 
 impl Table {
+    /// A table of no nodes.
+    pub(crate) fn new() -> Table
+        ensures { λ r. ⌜ r .count ≡ 0 ⌝ }
+    {
+        Table {
+            nodes: [Node::Unite; MOST_NODES],
+            count: 0,
+        }
+    }
+
+    /// Lays down one node more.
+    pub(crate) fn push(&mut self, node: Node)
+        requires room { ⌜ now self .count < 256 ⌝ }
+        requires fit { ⌜ fits node (standing (now self .nodes) (now self .count)) ≡ true ⌝ }
+        ensures counted { λ _. ⌜ now (self .exit) .count ≡ now (self .entry) .count + 1 ⌝ }
+        ensures made { λ _. ⌜ standing (now (self .exit) .nodes) (now (self .exit) .count) ≡ step node (standing (now (self .entry) .nodes) (now (self .entry) .count)) ⌝ }
+    {
+        self.nodes[self.count] = node;
+        self.count += 1;
+    }
+
     /// The last of the first `end` nodes, which found what it takes.
     fn last_of(&self, end: usize) -> Node
         requires some { ⌜ 1 ≤ end ⌝ }
@@ -50,7 +71,7 @@ impl Table {
 
     /// The clearance of the node that stands last once `end` nodes are laid down, and how many were
     /// laid down before it and all that it takes.
-    fn ask(&self, end: usize, p: Point) -> (u32, usize)
+    pub(crate) fn ask(&self, end: usize, p: Point) -> (u32, usize)
         requires laid { ⌜ end ≤ now self .count ⌝ }
         requires stands { ⌜ some (standing (now self .nodes) end) ≡ true ⌝ }
         requires near { ⌜ In (top (standing (now self .nodes) end) .reach) p ⌝ }
