@@ -8,7 +8,7 @@ use Rattle.geometry.proofs.Boxes.{block-lawful}
 use Rattle.geometry.proofs.Kept.{unite-lawful, meet-lawful, shift-lawful, thicken-lawful}
 use Rattle.scene.specs.declared.node.Node.{Node}
 use Rattle.scene.specs.declared.node.Node.the-variants.{Unite, Meet, Ball, Block, Shift, Thicken}
-use Rattle.scene.specs.Standing.{on-two, on-one, step, standing, origin, top}
+use Rattle.scene.specs.Standing.{on-two, on-one, step, gathered, standing, origin, top}
 use lib.ListN.{getD}
 use lib.Dec.{lit≤}
 
@@ -34,7 +34,7 @@ step-lawful (Shift v) s l = one-lawful (shift v) (shift-lawful v) s l
 step-lawful (Thicken h) s l = one-lawful (thicken h) (thicken-lawful h) s l
 
 pub standing-lawful : (ns : List Node) (n : ℕ) → All-lawful (standing ns n)
-unfolding standing
+unfolding gathered
 standing-lawful ns zero = tt
 standing-lawful ns (suc n) = step-lawful (getD ns n Unite) (standing ns n) (standing-lawful ns n)
 

@@ -35,10 +35,14 @@ step (Block b) s = block (b .lo) (b .hi) ∷ s
 step (Shift v) s = on-one (shift v) s
 step (Thicken h) s = on-one (thicken h) s
 
+-- what comes of the first n entries of a table, taken in their order; d stands for what is past its end
+unfoldable pub gathered : {A B : Type 0} → (A → B → B) → B → A → List A → ℕ → B
+gathered f z d xs zero = z
+gathered f z d xs (suc n) = f (getD xs n d) (gathered f z d xs n)
+
 -- what stands once n nodes of a table are laid down
-unfoldable pub standing : List Node → ℕ → List Body
-standing ns zero = []
-standing ns (suc n) = step (getD ns n Unite) (standing ns n)
+abbrev pub standing : List Node → ℕ → List Body
+standing ns n = gathered step [] Unite ns n
 
 -- does a body stand, do two, and which is the last, and which are before it?
 abbrev pub some : List Body → Bool
@@ -80,6 +84,8 @@ abbrev pub summed : Body → Summary
 summed b = record { reach = b .reach; exact = b .exact }
 
 -- the first n entries of a table of summaries, the last first
-unfoldable pub stacked : List Summary → ℕ → List Summary
-stacked ms zero = []
-stacked ms (suc n) = getD ms n (record { reach = 0; exact = false }) ∷ stacked ms n
+abbrev pub no-summary : Summary
+no-summary = record { reach = 0; exact = false }
+
+abbrev pub stacked : List Summary → ℕ → List Summary
+stacked ms n = gathered _∷_ [] no-summary ms n

@@ -28,7 +28,7 @@ pub struct Draft {
     pub(crate) table: Table,
     summaries: [Summary; MOST_NODES],
     height: usize,
-    ghost room: { height ≤ 256 },
+    ghost fewer: { height ≤ table .count },
     ghost tally: { map summed (standing (table .nodes) (table .count)) ≡ stacked summaries height },
 }
 

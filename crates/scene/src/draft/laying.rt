@@ -111,9 +111,9 @@ impl Draft {
         ensures { λ _. ⌜ state (now (self .exit)) ≡ (state (now (self .entry)) .0 + 1, step node (state (now (self .entry)) .1)) ⌝ }
     {
         let below = self.height - taken;
-        self.table.push(node);
         self.summaries[below] = summary;
         self.height = below + 1;
+        self.table.push(node);
     }
 
     /// Lays down a ball. The centre's coordinates are numbers 1 to 3, the radius is number 4.
