@@ -9,9 +9,10 @@ use lib.ListN.{length, getD, set, drop}
 use Rattle.std.specs.declared.result.Result.the-variants.{Ok, Err}
 use Rattle.solid.specs.Body.{Body}
 use Rattle.scene.specs.declared.node.Summary.{Summary}
+use Rattle.scene.specs.declared.draft.DraftFault.{DraftFault}
 use Rattle.scene.specs.declared.draft.DraftFault.the-variants.{TooFew, Unfinished}
 use Rattle.scene.specs.Standing.{gathered, summed, last-exact, no-summary, stacked}
-use Rattle.scene.specs.States.{last-of, last-two, only}
+use Rattle.scene.specs.Known.{last-of, last-two, only}
 use Rattle.scene.proofs.Gathers.{gathered-last, gathered-push}
 
 unlike : {A : Type 0} (x : A) (xs : List A) → [] ≡ x ∷ xs → ⊥
@@ -42,10 +43,6 @@ first-is : (s : List Body) (x : Summary) (t : List Summary) → map summed s ≡
 first-is [] x t e = absurd (unlike _ _ e)
 first-is (a ∷ s) x t e = let f : summed a ≡ x = cc in ap Ok f
 
-exact-is : (s : List Body) (x : Summary) (t : List Summary) → map summed s ≡ x ∷ t → last-exact s ≡ x .exact
-exact-is [] x t e = absurd (unlike _ _ e)
-exact-is (a ∷ s) x t e = let f : summed a ≡ x = cc in ap (λ (y : Summary). y .exact) f
-
 -- the last two
 both-are : (s : List Body) (x y : Summary) (t : List Summary) → map summed s ≡ y ∷ (x ∷ t) → last-two s ≡ Ok (x, y)
 both-are [] x y t e = absurd (unlike _ _ e)
@@ -64,9 +61,6 @@ module _ (s : List Body) (ms : List Summary) (h : ℕ) (e : map summed s ≡ sta
   pub last-read : 1 ≤ h → Ok (getD ms (h - 1) no-summary) ≡ last-of s
   last-read l = sym (first-is s _ _ (one l))
 
-  pub exact-read : 1 ≤ h → getD ms (h - 1) no-summary .exact ≡ last-exact s
-  exact-read l = sym (exact-is s _ _ (one l))
-
   pub two-read : 2 ≤ h → Ok (getD ms (h - 2) no-summary, getD ms (h - 1) no-summary) ≡ last-two s
   two-read l =
       let z : h - 1 - 1 ≡ h - 2 = omega arith in
@@ -81,10 +75,6 @@ pub no-last : (s : List Body) → length s < 1 → Err TooFew ≡ last-of s
 no-last [] l = refl
 no-last (a ∷ s) l = absurd (omega arith)
 
-pub not-exact : (s : List Body) → length s < 1 → false ≡ last-exact s
-not-exact [] l = refl
-not-exact (a ∷ s) l = absurd (omega arith)
-
 pub no-two : (s : List Body) → length s < 2 → Err TooFew ≡ last-two s
 no-two [] l = refl
 no-two (b ∷ []) l = refl
@@ -94,3 +84,12 @@ pub not-only : (s : List Body) → length s ≢ 1 → Err Unfinished ≡ only s
 not-only [] n = refl
 not-only (b ∷ []) n = absurd (n refl)
 not-only (b ∷ (a ∷ s)) n = refl
+
+-- whether the last one is exact
+pub exact-known : (s : List Body) (x : Summary) → Ok x ≡ last-of s → x .exact ≡ last-exact s
+exact-known [] x e = let z : _≡_ {A = ℕ} 0 1 = cc in absurd (omega arith)
+exact-known (a ∷ s) x e = let f : x ≡ summed a = cc in ap (λ (y : Summary). y .exact) f
+
+pub exact-unknown : (s : List Body) (e : DraftFault) → Err e ≡ last-of s → false ≡ last-exact s
+exact-unknown [] e f = refl
+exact-unknown (a ∷ s) e f = let z : _≡_ {A = ℕ} 0 1 = cc in absurd (omega arith)

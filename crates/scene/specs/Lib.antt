@@ -2,6 +2,7 @@ pub mod Standing
 pub mod Laws
 pub mod DraftTold
 pub mod Laid
+pub mod Known
 pub mod States
 pub mod Scenes
 pub mod ExactTold

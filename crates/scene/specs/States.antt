@@ -1,6 +1,6 @@
 -- A draft, as the calls on it see it: how many nodes were laid down, and the bodies that stand, the last first.
 use mathlib.Core.Bool.{cond}
-use mathlib.Core.List.{List, [], _∷_}
+use mathlib.Core.List.{List}
 use Prim.Native.Nat.{ℕ, _+_}
 use lib.Dec.{ltb}
 use Rattle.std.specs.Results.{andOther}
@@ -9,9 +9,8 @@ use Rattle.std.specs.declared.result.Result.the-variants.{Ok, Err}
 use Rattle.solid.specs.Body.{Body}
 use Rattle.scene.specs.declared.draft.Draft.{Draft}
 use Rattle.scene.specs.declared.draft.DraftFault.{DraftFault}
-use Rattle.scene.specs.declared.draft.DraftFault.the-variants.{Full, TooFew, Unfinished}
-use Rattle.scene.specs.declared.node.Summary.{Summary}
-use Rattle.scene.specs.Standing.{standing, summed}
+use Rattle.scene.specs.declared.draft.DraftFault.the-variants.{Full}
+use Rattle.scene.specs.Standing.{standing}
 use Rattle.scene.specs.Laid.{Laid}
 
 abbrev pub State : Type 0
@@ -32,18 +31,3 @@ room n = cond (ltb n 256) (Ok tt) (Err Full)
 -- a node finds room, and is laid down
 abbrev pub lay : (List Body → Laid) → State → Result Unit DraftFault × State
 lay on x = outcome (andOther (room (x .0)) (on (x .1))) x
-
--- what is known of the last that stands, of the last two, and of one that stands alone
-abbrev pub last-of : List Body → Result Summary DraftFault
-last-of [] = Err TooFew
-last-of (a ∷ s) = Ok (summed a)
-
-abbrev pub last-two : List Body → Result (Summary × Summary) DraftFault
-last-two [] = Err TooFew
-last-two (b ∷ []) = Err TooFew
-last-two (b ∷ (a ∷ s)) = Ok (summed a, summed b)
-
-abbrev pub only : List Body → Result Summary DraftFault
-only [] = Err Unfinished
-only (b ∷ []) = Ok (summed b)
-only (b ∷ (a ∷ s)) = Err Unfinished

@@ -64,7 +64,7 @@ pub impl Solid for Scene as SceneSolid {
     }
 
     fn clearance(&self, p: Point) -> Result<u32, QuestionFault> {
-        if !p.within(self.summary.reach) {
+        if !p.within(self.reach()) {
             return Err(QuestionFault::BeyondReach);
         }
         let (clear, _) = self.table.ask(self.table.count, p);

@@ -9,7 +9,8 @@ ghost use lib.ListN.{length, drop};
 ghost use Rattle.geometry.specs.Layers.{unite, meet};
 ghost use Rattle.scene.specs.Standing.{step, fits, summed, last-exact};
 ghost use Rattle.scene.specs.Laid.{ball-on, box-on, two-on, shift-on, thicken-on};
-ghost use Rattle.scene.specs.States.{state, room, lay, last-of, last-two, only};
+ghost use Rattle.scene.specs.Known.{last-of, last-two, only};
+ghost use Rattle.scene.specs.States.{state, room, lay};
 use super::Draft;
 use super::DraftFault;
 use super::DraftFromLayer;
@@ -60,13 +61,16 @@ impl Draft {
     pub fn last_is_exact(&self) -> bool
         ensures { λ r. ⌜ r ≡ last-exact (state (now (self .entry)) .1) ⌝ }
     {
-        self.height > 0 && self.summaries[self.height - 1].exact
+        match self.last() {
+            Ok(last) => last.exact,
+            Err(_) => false,
+        }
     }
 
     fn check_room(&self) -> Result<(), DraftFault>
         ensures { λ r. ⌜ r ≡ room (state (now (self .entry)) .0) ⌝ }
     {
-        if self.table.count >= MOST_NODES {
+        if self.nodes() >= MOST_NODES {
             return Err(DraftFault::Full);
         }
         Ok(())
