@@ -11,14 +11,14 @@ ghost use Rattle.scene.specs.Standing.{step, fits, summed, last-exact};
 ghost use Rattle.scene.specs.Laid.{ball-on, box-on, two-on, shift-on, thicken-on};
 ghost use Rattle.scene.specs.Known.{last-of, last-two, only};
 ghost use Rattle.scene.specs.States.{state, room, lay};
-use super::Draft;
-use super::DraftFault;
-use super::DraftFromLayer;
-use super::DraftFromLeaf;
 use super::super::node::Node;
 use super::super::node::Summary;
 use super::super::table::MOST_NODES;
 use super::super::table::Table;
+use super::Draft;
+use super::DraftFault;
+use super::DraftFromLayer;
+use super::DraftFromLeaf;
 use lattice::Point;
 use layers::check_offset;
 use layers::check_thickness;
@@ -93,7 +93,10 @@ impl Draft {
         if self.height < 2 {
             return Err(DraftFault::TooFew);
         }
-        Ok((self.summaries[self.height - 2], self.summaries[self.height - 1]))
+        Ok((
+            self.summaries[self.height - 2],
+            self.summaries[self.height - 1],
+        ))
     }
 
     /// The one node that stands.

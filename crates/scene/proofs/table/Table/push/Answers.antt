@@ -15,13 +15,12 @@ ghost-self c =
     let ns = c .args .self .now .nodes in
     let n = c .args .self .now .count in
     let x = c .args .node in
-    let l : n < length ns = omega arith in
-    (
+    let l : n < length ns = omega arith in (
       omega arith,
       (
         below-more _ n
-        (λ k h. let ne : k ≢ n = omega arith in ap₂ fits (getD-set-other ns n k x Unite ne) (gathered-kept step _ Unite ns n x k (omega arith)) ∙ c .args .self .now .sound k h)
-        (ap₂ fits (getD-set-same ns n x Unite l) (gathered-kept step _ Unite ns n x n (omega arith)) ∙ c .pre .fit),
+            (λ k h. let ne : k ≢ n = omega arith in ap₂ fits (getD-set-other ns n k x Unite ne) (gathered-kept step _ Unite ns n x k (omega arith)) ∙ c .args .self .now .sound k h)
+            (ap₂ fits (getD-set-same ns n x Unite l) (gathered-kept step _ Unite ns n x n (omega arith)) ∙ c .pre .fit),
         tt,
       ),
     )
