@@ -54,6 +54,13 @@ impl<'a> Reader<'a> {
         self.at = 0;
     }
 
+    /// How many words of the part are read.
+    pub fn place(&self) -> usize
+        ensures { λ r. ⌜ r ≡ place (now (self .entry)) ⌝ }
+    {
+        self.at
+    }
+
     /// Is no byte left?
     pub fn at_end(&self) -> bool
         ensures { λ r. ⌜ r ≡ eqb (length (ahead (now (self .entry)))) 0 ⌝ }
