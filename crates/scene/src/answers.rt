@@ -1,5 +1,6 @@
 //! A scene is filled from a draft, and answers as a solid.
 ghost use mathlib.Core.Path.{_≡_};
+ghost use Rattle.std.specs.Vec.{refused};
 ghost use Rattle.geometry.specs.Leaves.{ball};
 ghost use Rattle.scene.specs.Standing.{origin};
 ghost use Rattle.scene.specs.States.{state};
@@ -36,7 +37,8 @@ impl Scene {
     /// Becomes the scene of a draft in which one node alone stands. From another it is refused with
     /// 12 and stays what it was.
     pub fn fill(&mut self, draft: &Draft) -> Result<(), DraftFault>
-        ensures { λ r. ⌜ (r, scene-body (now (self .exit))) ≡ filled (state (now (draft .entry)) .1) (scene-body (now (self .entry))) ⌝ }
+        ensures value { λ r. ⌜ (r, scene-body (now (self .exit))) ≡ filled (state (now (draft .entry)) .1) (scene-body (now (self .entry))) ⌝ }
+        ensures same { λ r. ⌜ refused r (λ _. now (self .exit) ≡ now (self .entry)) ⌝ }
     {
         let summary = draft.only()?;
         *self = Scene {

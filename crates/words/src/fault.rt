@@ -31,7 +31,8 @@ const ROW: u32 = 5;
 /// The greatest place that can be told.
 const FURTHEST: usize = 0xffff_ffff;
 
-fn tell(place: usize) -> u32
+/// A place as it is told: one past the greatest is told as the greatest.
+pub fn tell(place: usize) -> u32
     ensures { λ r. ⌜ r ≡ place-told place ⌝ }
 {
     place.min(FURTHEST) as u32
