@@ -27,7 +27,7 @@ over-is a v h k = omega (arith, ints)
 abbrev pub back-over : Point → Point → Point
 back-over v p = record { x = toZ w32 (ofZ w32 (toZ w32 (ofZ w32 (p .x)) -ℤ toZ w32 (ofZ w32 (v .x)))); y = toZ w32 (ofZ w32 (toZ w32 (ofZ w32 (p .y)) -ℤ toZ w32 (ofZ w32 (v .y)))); z = toZ w32 (ofZ w32 (toZ w32 (ofZ w32 (p .z)) -ℤ toZ w32 (ofZ w32 (v .z)))) }
 
-back-over-is : (r : ℕ) (v p : Point) → r ≤ 1048576 → norm v ≤ r → In (r - norm v) p → back-over v p ≡ back v p
+pub back-over-is : (r : ℕ) (v p : Point) → r ≤ 1048576 → norm v ≤ r → In (r - norm v) p → back-over v p ≡ back v p
 unfolding over
 back-over-is r v p l h i =
     let ex = over-is (p .x) (v .x) (omega arith) (omega arith) in

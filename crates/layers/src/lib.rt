@@ -7,7 +7,7 @@ ghost use Rattle.geometry.specs.Layers.{unite, meet, shift, thicken, capped};
 ghost use Rattle.geometry.specs.Stands.{Near-decides};
 ghost use Rattle.geometry.proofs.Kept.{unite-lawful, meet-lawful, shift-lawful, thicken-lawful, capped-lawful};
 ghost use Rattle.layers.specs.Told.{layer-told};
-ghost use Rattle.layers.specs.Made.{shift-made, ranged, thicken-number, cap-number, parts};
+ghost use Rattle.layers.specs.Made.{offset-checked, shift-made, ranged, thicken-number, cap-number, parts};
 use lattice::Point;
 use refusal::Refusal;
 use solid::Exact;
@@ -70,6 +70,33 @@ fn first_number(number: i32, least: u32, most: u32) -> Result<u32, LayerFault>
         return Err(LayerFault::Range { place: 1 });
     }
     Ok(size)
+}
+
+/// Checks an offset of a solid of that reach: refuses with 4 the first part outside -16383..=16383,
+/// then with 11 an offset of which a part is above the reach, in size.
+pub fn check_offset(reach: u32, by: Point) -> Result<(), LayerFault>
+    ensures { λ r. ⌜ r ≡ offset-checked reach by ⌝ }
+{
+    if by.x.unsigned_abs() > OFFSET_MOST {
+        return Err(LayerFault::Range { place: 1 });
+    }
+    if by.y.unsigned_abs() > OFFSET_MOST {
+        return Err(LayerFault::Range { place: 2 });
+    }
+    if by.z.unsigned_abs() > OFFSET_MOST {
+        return Err(LayerFault::Range { place: 3 });
+    }
+    if by.norm() > reach {
+        return Err(LayerFault::PastReach);
+    }
+    Ok(())
+}
+
+/// A distance to thicken by, which lies in 0..=1023; another is refused with 4.
+pub fn check_thickness(by: i32) -> Result<u32, LayerFault>
+    ensures { λ r. ⌜ r ≡ thicken-number by ⌝ }
+{
+    first_number(by, THICKEN_LEAST, THICKEN_MOST)
 }
 
 /// The reach of what stands on two solids.
@@ -162,18 +189,7 @@ impl<S: Solid + Drop> Shift<S> {
     pub fn new(below: S, by: Point) -> Result<Shift<S>, LayerFault>
         ensures { λ r. ⌜ r ≡ shift-made (S·Solid .body below .reach) by (record { below = below; by = by }) ⌝ }
     {
-        if by.x.unsigned_abs() > OFFSET_MOST {
-            return Err(LayerFault::Range { place: 1 });
-        }
-        if by.y.unsigned_abs() > OFFSET_MOST {
-            return Err(LayerFault::Range { place: 2 });
-        }
-        if by.z.unsigned_abs() > OFFSET_MOST {
-            return Err(LayerFault::Range { place: 3 });
-        }
-        if by.norm() > below.reach() {
-            return Err(LayerFault::PastReach);
-        }
+        check_offset(below.reach(), by)?;
         Ok(Shift { below, by })
     }
 }
@@ -232,7 +248,7 @@ impl<S: Exact + Drop> Thicken<S> {
         ensures value { λ r. ⌜ r ≡ mapped (λ h. record { below = below; by = h }) (λ e. e) (thicken-number by) ⌝ }
         ensures near { λ _. ⌜ Near-decides ⌝ }
     {
-        let by = first_number(by, THICKEN_LEAST, THICKEN_MOST)?;
+        let by = check_thickness(by)?;
         Ok(Thicken { below, by })
     }
 }

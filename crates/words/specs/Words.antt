@@ -1,6 +1,9 @@
 -- The words of a file: 32 bits, the least significant byte first. Bits 31..28 are the word's kind; a bit that no rule names is zero.
 use Prim.Native.Nat.{ℕ, _+_, _*_, _/_, _%_}
 use mathlib.Core.List.{List, [], _∷_, _++_}
+use mathlib.Core.Bool.{cond}
+use lib.Dec.{ltb}
+use lib.IntN.{ℤ, pos, _-ℤ_}
 
 -- a word as bytes
 abbrev pub four : ℕ → List ℕ
@@ -9,6 +12,10 @@ four w = (w % 256) ∷ (w / 256 % 256) ∷ (w / 65536 % 256) ∷ (w / 16777216 %
 -- a word of a kind, by its other 28 bits
 abbrev pub of-kind : (kind rest : ℕ) → ℕ
 of-kind kind rest = kind * 268435456 + rest
+
+-- 16 bits as a number in two's complement
+abbrev pub signed : ℕ → ℤ
+signed n = cond (ltb n 32768) (pos n) (pos n -ℤ pos 65536)
 
 -- a number word: a 16-bit two's complement number in bits 15..0; this is the one of a natural number below 32,768
 abbrev pub number-word : ℕ → ℕ

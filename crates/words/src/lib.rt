@@ -1,1 +1,3 @@
-//! The words of a file.
+//! The words of a file: 32 bits each, the least significant byte first.
+pub mod fault;
+pub mod reader;

@@ -1,0 +1,4 @@
+pub mod Stands
+pub mod ReadBack
+pub mod Sheets
+pub mod SheetBack

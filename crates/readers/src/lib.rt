@@ -1,0 +1,3 @@
+//! The readers of a job and of a surface.
+pub mod job;
+pub mod surface;

@@ -1,0 +1,3 @@
+pub mod Gathers
+pub mod Stacks
+pub mod Summaries

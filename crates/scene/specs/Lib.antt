@@ -1,0 +1,9 @@
+pub mod Standing
+pub mod Laws
+pub mod DraftTold
+pub mod Laid
+pub mod Known
+pub mod States
+pub mod Scenes
+pub mod ExactTold
+pub mod Exacts

@@ -1,0 +1,3 @@
+pub mod Laying
+pub mod Turns
+pub mod Ending

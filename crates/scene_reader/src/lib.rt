@@ -1,0 +1,4 @@
+//! The reader of a scene.
+pub mod fault;
+pub mod kind;
+pub mod reads;
