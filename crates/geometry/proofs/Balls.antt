@@ -1,4 +1,4 @@
--- The ball's body is lawful and exact.
+-- The ball's body is lawful and exact, and what the ball answers.
 use mathlib.Core.Path.{_≡_, sym, ap, _∙_}
 use mathlib.Core.Bool.{true, false}
 use mathlib.Core.Logic.{⊎-elim}

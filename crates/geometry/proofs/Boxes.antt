@@ -17,9 +17,9 @@ use Rattle.geometry.proofs.Axes.{beside-slope, beside-most, between-beside, be
 module _ (lo hi : Point) where
   inside : (p : Point) → block lo hi .member p ≡ true → block lo hi .clear p ≡ 0
   inside p e =
-    let f = and-parts (between (lo .x) (hi .x) (p .x)) (between (lo .y) (hi .y) (p .y) && between (lo .z) (hi .z) (p .z)) e in
-    let g = and-parts (between (lo .y) (hi .y) (p .y)) (between (lo .z) (hi .z) (p .z)) (f .1) in
-    omega (arith, between-beside (lo .x) (hi .x) (p .x) (f .0), between-beside (lo .y) (hi .y) (p .y) (g .0), between-beside (lo .z) (hi .z) (p .z) (g .1))
+      let f = and-parts (between (lo .x) (hi .x) (p .x)) (between (lo .y) (hi .y) (p .y) && between (lo .z) (hi .z) (p .z)) e in
+      let g = and-parts (between (lo .y) (hi .y) (p .y)) (between (lo .z) (hi .z) (p .z)) (f .1) in
+      omega (arith, between-beside (lo .x) (hi .x) (p .x) (f .0), between-beside (lo .y) (hi .y) (p .y) (g .0), between-beside (lo .z) (hi .z) (p .z) (g .1))
 
   on-axes : (p : Point) → between (lo .x) (hi .x) (p .x) ≡ true → between (lo .y) (hi .y) (p .y) ≡ true → between (lo .z) (hi .z) (p .z) ≡ true → block lo hi .member p ≡ true
   on-axes p ex ey ez = and-from (between (lo .x) (hi .x) (p .x)) (between (lo .y) (hi .y) (p .y) && between (lo .z) (hi .z) (p .z)) ex (and-from (between (lo .y) (hi .y) (p .y)) (between (lo .z) (hi .z) (p .z)) ey ez)

@@ -1,21 +1,26 @@
--- The surface's body is lawful.
-use mathlib.Core.Path.{_≡_, sym, ap, _∙_}
-use mathlib.Core.Bool.{true, false}
+-- The surface's body is lawful, and what the surface answers.
+use mathlib.Core.Path.{_≡_, refl, sym, ap, _∙_}
+use mathlib.Core.Bool.{true, false, _&&_}
 use mathlib.Core.List.{List}
 use mathlib.Core.Logic.{⊎-elim}
 use Prim.Native.Nat.{ℕ, zero, suc, _+_, _*_, _≤_, _<_, max}
+use native.Mathlib.Numerals.{add-one}
 use native.Mathlib.Omega.{arith}
 use lib.IntN.{ℤ, pos, _-ℤ_, natAbs}
 use lib.ListN.{getD}
 use lib.Signed.{leZ, _≤ℤ_}
 use borrow.Author.Differences.{ints, le-true, true-is-le}
+use Rattle.std.specs.Numbers.{maxZ}
+use Rattle.std.specs.declared.result.Result.the-variants.{Ok, Err}
 use Rattle.std.proofs.shelf.Bits.{mul-add-lt}
 use Rattle.std.proofs.shelf.Signed.{clamps}
-use Rattle.std.proofs.shelf.Tests.{and-parts, cond-true, cond-both, cases-lt, both-ways, true≢false}
-use Rattle.lattice.specs.Space.{gap, dist}
+use Rattle.std.proofs.shelf.Tests.{and-parts, cond-true, cond-false, cond-both, cases-lt, both-ways, true≢false}
+use Rattle.lattice.specs.Space.{gap, dist, within}
 use Rattle.lattice.specs.declared.Point.{Point}
+use Rattle.solid.specs.declared.QuestionFault.the-variants.{BeyondReach}
+use Rattle.solid.specs.Answer.{answer}
 use Rattle.solid.specs.Body.{Lawful}
-use Rattle.geometry.specs.Leaves.{above, beside, between, lowest, last, height, greatest, on-sheet, in-column, off-block, surface}
+use Rattle.geometry.specs.Leaves.{leaf-reach, above, beside, between, lowest, last, height, greatest, on-sheet, in-column, off-block, surface}
 use Rattle.geometry.proofs.Axes.{rise-is, above-slope, le-above, beside-slope, between-beside}
 
 -- the greatest height is at least the lowest one, and at least each height
@@ -32,6 +37,11 @@ greatest-most (suc n) hs k l =
 
 le-chain : (a b c : ℤ) → leZ a b ≡ true → b ≤ℤ c → leZ a c ≡ true
 le-chain a b c e l = sym (true-is-le a c (omega (arith, ints)))
+
+-- one height more
+pub greatest-more : (n : ℕ) (hs : List ℤ) → greatest (n + 1) hs ≡ maxZ (greatest n hs) (getD hs n lowest)
+unfolding greatest
+greatest-more n hs = rw add-one refl
 
 -- a column of n is below n
 column : (n : ℕ) (a : ℤ) → between (pos 0) (last n) a ≡ true → natAbs a < n
@@ -95,3 +105,14 @@ module _ (w d : ℕ) (hs : List ℤ) where
     slope = λ p q _ _. by-cases q (λ c. surface w d hs .clear p ≤ c + dist p q) (λ e. omega (arith, none-nearer p q e)) (λ _. gentle p q);
     touched = λ e. absurd (true≢false (sym e));
   }
+
+  -- whether a point on the sheet lies in its column, and what the surface answers within its reach
+  pub column-is : (p : Point) (h : ℤ) → between (pos 0) (last w) (p .x) ≡ true → between (pos 0) (last d) (p .y) ≡ true → h ≡ height w hs (natAbs (p .x)) (natAbs (p .y)) → leZ (p .z) h ≡ in-column w d hs p
+  column-is p h ex ey e = ap (leZ (p .z)) e ∙ λ t. (sym ex t && sym ey t) && leZ (p .z) (height w hs (natAbs (p .x)) (natAbs (p .y)))
+
+  pub asked-in : (p : Point) → within leaf-reach p ≡ true → in-column w d hs p ≡ true → Ok 0 ≡ answer (surface w d hs) p
+  asked-in p i m = ap Ok (sym (cond-true (in-column w d hs p) 0 (max 1 (off p)) m)) ∙ sym (cond-true (within leaf-reach p) (Ok (surface w d hs .clear p)) (Err BeyondReach) i)
+
+  pub asked-off : (p : Point) (top : ℤ) (r a b c : ℕ) → within leaf-reach p ≡ true → in-column w d hs p ≡ false → top ≡ greatest (w * d) hs → a ≡ beside (pos 0) (last w) (p .x) → b ≡ beside (pos 0) (last d) (p .y) → c ≡ above (p .z) top → r ≡ max 1 (max a (max b c)) → Ok r ≡ answer (surface w d hs) p
+  asked-off p top r a b c i m et ea eb ec e =
+      ap Ok (e ∙ (λ t. max 1 (max (ea t) (max (eb t) ((ec ∙ ap (above (p .z)) et) t)))) ∙ sym (cond-false (in-column w d hs p) 0 (max 1 (off p)) m)) ∙ sym (cond-true (within leaf-reach p) (Ok (surface w d hs .clear p)) (Err BeyondReach) i)

@@ -3,6 +3,7 @@ use mathlib.Core.Bool.{Bool, cond}
 use Prim.Native.Nat.{ℕ}
 use lib.Dec.{leb}
 use lib.IntN.{ℤ, pos, negsuc, natAbs}
+use Rattle.std.specs.Results.{mapped}
 use Rattle.std.specs.declared.result.Result.{Result}
 use Rattle.std.specs.declared.result.Result.the-variants.{Ok, Err}
 use Rattle.lattice.specs.Space.{norm}
@@ -31,14 +32,9 @@ thicken-number = ranged 0 1023
 abbrev pub cap-number : ℤ → Result ℕ LayerFault
 cap-number = ranged 1 2097151
 
--- what is made of an accepted value; a refusal stays as it is
-abbrev pub mapped : {A B : Type 0} → (A → B) → Result A LayerFault → Result B LayerFault
-mapped f (Ok a) = Ok (f a)
-mapped f (Err e) = Err e
-
 -- a shift by an offset that passes the checks
 abbrev pub shift-made : {A : Type 0} → (reach : ℕ) → Point → A → Result A LayerFault
-shift-made reach v made = mapped (λ _. made) (offset-checked reach v)
+shift-made reach v made = mapped (λ _. made) (λ e. e) (offset-checked reach v)
 
 -- the parts of a cap
 abbrev pub parts : {A : Type 0} → A → ℕ → A × ℕ

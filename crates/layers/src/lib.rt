@@ -2,11 +2,12 @@
 //! solid that is lent is a solid too, so a layer may also stand over references.
 ghost use mathlib.Core.Path.{_≡_};
 ghost use Prim.Native.Nat.{_≤_, min};
+ghost use Rattle.std.specs.Results.{mapped};
 ghost use Rattle.geometry.specs.Layers.{unite, meet, shift, thicken, capped};
 ghost use Rattle.geometry.specs.Stands.{Near-decides};
 ghost use Rattle.geometry.proofs.Kept.{unite-lawful, meet-lawful, shift-lawful, thicken-lawful, capped-lawful};
 ghost use Rattle.layers.specs.Told.{layer-told};
-ghost use Rattle.layers.specs.Made.{offset-checked, shift-made, ranged, thicken-number, cap-number, mapped, parts};
+ghost use Rattle.layers.specs.Made.{offset-checked, shift-made, ranged, thicken-number, cap-number, parts};
 use lattice::Point;
 use refusal::Refusal;
 use solid::Exact;
@@ -46,14 +47,18 @@ pub impl Refusal for LayerFault as LayerRefusal {
 }
 
 /// The greatest part that an offset may have, in size.
-const OFFSET_MOST: u32 = 16383;
-/// The least and the greatest distance to thicken by.
+const OFFSET_MOST: u32 = 16_383;
+
+/// The least distance to thicken by.
 const THICKEN_LEAST: u32 = 0;
 
+/// The greatest distance to thicken by.
 const THICKEN_MOST: u32 = 1023;
-/// The least and the greatest bound that a cap may set.
+
+/// The least bound that a cap may set.
 const CAP_LEAST: u32 = 1;
 
+/// The greatest bound that a cap may set.
 const CAP_MOST: u32 = 2_097_151;
 
 /// A call's first number, if it lies in `least..=most`.
@@ -240,7 +245,7 @@ impl<S: Exact + Drop> Thicken<S> {
     /// a point; `near` says that the search finds a member within the distance exactly where
     /// there is one.
     pub fn new(below: S, by: i32) -> Result<Thicken<S>, LayerFault>
-        ensures value { λ r. ⌜ r ≡ mapped (λ h. record { below = below; by = h }) (thicken-number by) ⌝ }
+        ensures value { λ r. ⌜ r ≡ mapped (λ h. record { below = below; by = h }) (λ e. e) (thicken-number by) ⌝ }
         ensures near { λ _. ⌜ Near-decides ⌝ }
     {
         let by = check_thickness(by)?;
@@ -282,7 +287,7 @@ pub struct Cap<S> {
 impl<S: Drop> Cap<S> {
     /// Refuses with 4 a bound outside 1..=2097151.
     pub fn new(below: S, most: i32) -> Result<Cap<S>, LayerFault>
-        ensures { λ r. ⌜ mapped (λ c. parts (c .below) (c .most)) r ≡ mapped (parts below) (cap-number most) ⌝ }
+        ensures { λ r. ⌜ mapped (λ c. parts (c .below) (c .most)) (λ e. e) r ≡ mapped (parts below) (λ e. e) (cap-number most) ⌝ }
     {
         let most = first_number(most, CAP_LEAST, CAP_MOST)?;
         Ok(Cap { below, most })

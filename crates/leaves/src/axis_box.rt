@@ -11,21 +11,26 @@ use super::axis::beside;
 use super::fault::LeafFault;
 use super::fault::check_point;
 use lattice::Point;
-use lattice::PointDebug;
 use solid::Exact;
 use solid::QuestionFault;
 use solid::Solid;
 
 /// The points that lie from `lo` to `hi` on each axis.
-#[derive(Clone, Copy, Debug)]
+#[derive(Clone, Copy)]
 pub struct AxisBox {
-    lo: Point,
-    hi: Point,
+    pub lo: Point,
+    pub hi: Point,
     ghost low: { In 16384 lo },
     ghost high: { In 16384 hi },
     ghost upright: { ordered lo hi ≡ true },
 }
 
+/// Where a box's numbers stand among those of its making.
+const LO_PLACE: u32 = 1;
+
+const HI_PLACE: u32 = 4;
+
+/// Is `lo` above `hi` on no axis?
 fn ordered(lo: Point, hi: Point) -> bool
     ensures { λ r. ⌜ r ≡ ordered lo hi ⌝ }
 {
@@ -38,8 +43,8 @@ impl AxisBox {
     pub fn new(lo: Point, hi: Point) -> Result<AxisBox, LeafFault>
         ensures { λ r. ⌜ mapped (λ (b : AxisBox). (b .lo, b .hi)) (λ e. e) r ≡ box-made lo hi ⌝ }
     {
-        check_point(lo, 1)?;
-        check_point(hi, 4)?;
+        check_point(lo, LO_PLACE)?;
+        check_point(hi, HI_PLACE)?;
         if !ordered(lo, hi) {
             return Err(LeafFault::Crossed);
         }

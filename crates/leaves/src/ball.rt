@@ -13,21 +13,27 @@ use super::fault::LeafFault;
 use super::fault::check_point;
 use super::fault::check_range;
 use lattice::Point;
-use lattice::PointDebug;
 use solid::Exact;
 use solid::QuestionFault;
 use solid::Solid;
 
 /// The points whose squared offsets from the centre add to at most the radius squared.
-#[derive(Clone, Copy, Debug)]
+#[derive(Clone, Copy)]
 pub struct Ball {
-    centre: Point,
-    radius: u32,
+    pub centre: Point,
+    pub radius: u32,
     ghost near: { In 16384 centre },
     ghost small: { radius ≤ 16383 },
 }
 
+const LEAST_RADIUS: i32 = 0;
+
 const MOST_RADIUS: i32 = 16_383;
+
+/// Where a ball's numbers stand among those of its making.
+const CENTRE_PLACE: u32 = 1;
+
+const RADIUS_PLACE: u32 = 4;
 
 impl Ball {
     /// The ball of that centre and radius. The centre's coordinates, numbers 1 to 3, lie in
@@ -36,8 +42,8 @@ impl Ball {
         ensures value { λ r. ⌜ mapped (λ (b : Ball). (b .centre, b .radius)) (λ e. e) r ≡ ball-made centre radius ⌝ }
         ensures smallest { λ _. ⌜ Smallest-stands ⌝ }
     {
-        check_point(centre, 1)?;
-        check_range(radius, 0, MOST_RADIUS, 4)?;
+        check_point(centre, CENTRE_PLACE)?;
+        check_range(radius, LEAST_RADIUS, MOST_RADIUS, RADIUS_PLACE)?;
         Ok(Ball {
             centre,
             radius: radius as u32,
@@ -45,6 +51,8 @@ impl Ball {
     }
 }
 
+/// The square of an offset. Within the reach an offset from a centre is at most 1,064,960, the
+/// reach and 16,384 more, so that three squares and their sum fit.
 fn square(n: u32) -> u64
     requires { ⌜ n ≤ 1064960 ⌝ }
     ensures value { λ r. ⌜ r ≡ n * n ⌝ }

@@ -6,7 +6,7 @@ ghost use lib.Signed.{_≤ℤ_};
 ghost use Rattle.std.specs.Results.{isOk};
 ghost use Rattle.lattice.specs.Space.{In};
 ghost use Rattle.geometry.specs.Leaves.{between};
-ghost use Rattle.leaves.specs.Told.{leaf-told};
+ghost use Rattle.leaves.specs.Told.{leaf-told, surface-told};
 ghost use Rattle.leaves.specs.Made.{ranged, point-ranged};
 use lattice::Point;
 use refusal::Refusal;
@@ -39,6 +39,34 @@ pub impl Refusal for LeafFault as LeafRefusal {
             LeafFault::Range { place } => *place,
             LeafFault::Crossed => 0,
         }
+    }
+}
+
+/// Why a surface is not made.
+#[derive(Clone, Copy, PartialEq, Eq, Debug)]
+pub enum SurfaceFault {
+    /// 13: the width or the depth is outside 1..64.
+    Size,
+    /// 18: there are fewer heights than columns.
+    Buffer,
+}
+
+const SIZE_OUT_OF_RANGE: u32 = 13;
+
+const BUFFER_TOO_SMALL: u32 = 18;
+
+pub impl Refusal for SurfaceFault as SurfaceRefusal {
+    ghost told = { surface-told };
+
+    fn number(&self) -> u32 {
+        match self {
+            SurfaceFault::Size => SIZE_OUT_OF_RANGE,
+            SurfaceFault::Buffer => BUFFER_TOO_SMALL,
+        }
+    }
+
+    fn place(&self) -> u32 {
+        0
     }
 }
 

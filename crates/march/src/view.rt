@@ -1,11 +1,16 @@
 //! A view: where the rays of a picture start, and where they go.
 ghost use Prim.Native.Nat.{_≤_};
 ghost use lib.IntN.{natAbs};
+ghost use Rattle.march.specs.Told.{view-told};
 use lattice::Point;
-use lattice::direction::Direction;
 use lattice::PointDebug;
 use lattice::PointPartialEq;
+use lattice::direction::Direction;
 use lattice::direction::DirectionDebug;
+use refusal::Refusal;
+
+pub mod checks;
+pub mod points;
 
 /// The numbers of a view, as a job has them; any numbers at all.
 #[derive(Clone, Copy, PartialEq, Eq, Debug)]
@@ -47,4 +52,26 @@ pub enum ViewFault {
     Range { place: u32 },
     /// 5: the number at this place is no row of the table of directions that moves.
     Row { place: u32 },
+}
+
+const OUT_OF_RANGE: u32 = 4;
+
+const NO_ROW: u32 = 5;
+
+pub impl Refusal for ViewFault as ViewRefusal {
+    ghost told = { view-told };
+
+    fn number(&self) -> u32 {
+        match self {
+            ViewFault::Range { .. } => OUT_OF_RANGE,
+            ViewFault::Row { .. } => NO_ROW,
+        }
+    }
+
+    fn place(&self) -> u32 {
+        match self {
+            ViewFault::Range { place } => *place,
+            ViewFault::Row { place } => *place,
+        }
+    }
 }

@@ -1,0 +1,12 @@
+pub mod Lift
+pub mod Sums
+pub mod Place
+pub mod Sanity
+pub mod Bytes
+pub mod Steps
+pub mod Lines
+pub mod Worked
+pub mod Upshot
+pub mod Onward
+pub mod Calls
+pub mod Opens

@@ -1,0 +1,5 @@
+pub mod Space
+pub mod Ray
+pub mod Bodies
+pub mod Numbers
+pub mod Ends

@@ -1,0 +1,5 @@
+use Rattle.march.proofs.Space.{ahead-is}
+use Rattle.march.proofs.ahead.Needs as need
+
+pub returns : need.returns
+returns c = ahead-is (c .args .from) (c .args .d) (c .args .n) (c .pre .0) (c .pre .1) (c .pre .2)
