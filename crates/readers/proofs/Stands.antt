@@ -17,10 +17,10 @@ use Rattle.lattice.specs.Rows.{row-of, triple}
 use Rattle.lattice.specs.declared.Point.{Point}
 use Rattle.march.specs.declared.view.ViewNumbers.{ViewNumbers}
 use Rattle.march.specs.Checks.{Way, view-answer, origin-answer, ways-answer, sizes-answer, range-answer, count-answer, row-answer}
-use Rattle.words.specs.Reading.{in-range, point-in, is-row, number-in, row-at, point-at}
+use Rattle.words.specs.Reading.{in-range, point-in, is-row, number-in, row-at, place-at, offset-at}
 use Rattle.words.proofs.Chains.{first-ok, same-ok}
 use Rattle.words.proofs.Ranges.{number-in-range, row-is-row, point-in-range}
-use Rattle.readers.specs.Jobs.{place-at, offset-at, rows-at, sizes-at, view-at, pile-at}
+use Rattle.readers.specs.Jobs.{rows-at, sizes-at, view-at, pile-at}
 
 row-some : (n : ℤ) → is-row n ≡ true → (w : Way) × (row-of n ≡ Some w)
 row-some (pos k) h =

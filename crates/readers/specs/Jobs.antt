@@ -1,14 +1,14 @@
 -- What a job's words say: a start word, and nineteen numbers, each at its place.
 use mathlib.Core.List.{List}
 use Prim.Native.Nat.{ℕ, _+_}
-use lib.IntN.{ℤ, pos, negsuc, natAbs}
+use lib.IntN.{ℤ, pos, natAbs}
 use Rattle.std.specs.Results.{mapped}
 use Rattle.std.specs.declared.result.Result.{Result}
 use Rattle.std.specs.declared.result.Result.the-variants.{Ok, Err}
 use Rattle.lattice.specs.declared.Point.{Point}
 use Rattle.march.specs.declared.view.ViewNumbers.{ViewNumbers}
 use Rattle.words.specs.declared.fault.WordFault.{WordFault}
-use Rattle.words.specs.Reading.{and-then, unless, bare-at, number-in, row-at, point-at}
+use Rattle.words.specs.Reading.{and-then, unless, bare-at, number-in, row-at, place-at, offset-at}
 use Rattle.geometry.specs.Leaves.{ordered}
 use Rattle.readers.specs.declared.job.Job.{Job}
 use Rattle.readers.specs.declared.job.JobFault.{JobFault}
@@ -27,14 +27,6 @@ job-numbers j = record { view = j .view; guard = j .guard; shift = j .shift; lo 
 
 abbrev pub numbers-in : Result Job JobFault → Result JobNumbers JobFault
 numbers-in = mapped job-numbers (λ e. e)
-
--- a point with its coordinates in -16384..16383
-abbrev pub place-at : List ℕ → (place : ℕ) → Result Point WordFault
-place-at bs k = point-at bs k (negsuc 16383) (pos 16383)
-
--- an offset with its parts in -16383..16383
-abbrev pub offset-at : List ℕ → (place : ℕ) → Result Point WordFault
-offset-at bs k = point-at bs k (negsuc 16382) (pos 16383)
 
 -- three rows: ray, across, down
 unfoldable pub rows-at : List ℕ → (place : ℕ) → Result (ℤ × ℤ × ℤ) WordFault

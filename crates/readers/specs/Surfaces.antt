@@ -49,8 +49,3 @@ surface-of bs room =
 abbrev pub put-into : List ℤ → Result (SurfaceSize × List ℤ) SurfaceReadFault → Result SurfaceSize SurfaceReadFault × List ℤ
 put-into old (Ok x) = (Ok (x .0), x .1 ++ drop (x .0 .width * x .0 .depth) old)
 put-into old (Err e) = (Err e, old)
-
--- what a call answers that leaves a list
-abbrev pub held : {A B E : Type 0} → Result A E → B → Result B E
-held (Ok x) y = Ok y
-held (Err e) y = Err e

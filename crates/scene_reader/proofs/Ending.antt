@@ -9,10 +9,9 @@ use Rattle.std.specs.declared.result.Result.the-variants.{Ok, Err}
 use Rattle.solid.specs.Body.{Body}
 use Rattle.scene.specs.declared.draft.DraftFault.{DraftFault}
 use Rattle.scene.specs.Scenes.{filled}
-use Rattle.words.specs.Reading.{and-then}
+use Rattle.words.specs.Reading.{held, and-then}
 use Rattle.scene_reader.specs.declared.fault.SceneFault.{SceneFault}
 use Rattle.scene_reader.specs.Scenes.{at, ended, nodes-from, count-of, scene-of}
-use Rattle.scene_reader.specs.Held.{held}
 
 came : (count : ℕ) (s : List Body) (old : Body) → held (at count (filled s old .0)) (filled s old .1) ≡ ended count s
 unfolding ended

@@ -15,14 +15,13 @@ use Rattle.scene.specs.declared.draft.DraftFault.{DraftFault}
 use Rattle.scene.specs.Laid.{Laid}
 use Rattle.scene.specs.States.{State, outcome, room, lay}
 use Rattle.scene.specs.declared.draft.DraftFault.the-variants.{Full}
-use Rattle.words.specs.Reading.{and-then, bare-at}
+use Rattle.words.specs.Reading.{held, and-then, bare-at}
 use Rattle.words.proofs.Chains.{test-held}
 use Rattle.scene_reader.specs.declared.fault.SceneFault.{SceneFault}
 use Rattle.scene_reader.specs.declared.fault.SceneFault.the-variants.{Numbers, Node}
 use Rattle.scene_reader.specs.declared.kind.Kind.{Kind}
 use Rattle.scene_reader.specs.Kinds.{kind-of, numbers}
 use Rattle.scene_reader.specs.Scenes.{at, checked, laid, node-at}
-use Rattle.scene_reader.specs.Held.{held}
 
 -- what is known of a node that was laid down, or not, on x: `y` is the state after it
 abbrev Down : Laid → State → ℕ → Result Unit DraftFault → State → Type 0

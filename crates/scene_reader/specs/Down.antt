@@ -4,6 +4,7 @@ use Prim.Native.Nat.{ℕ, _+_}
 use Rattle.std.specs.Vec.{made}
 use Rattle.std.specs.declared.result.Result.{Result}
 use Rattle.words.specs.declared.reader.Reader.{Reader}
+use Rattle.words.specs.Reading.{held}
 use Rattle.words.specs.Cursor.{text, place}
 use Rattle.scene.specs.declared.draft.Draft.{Draft}
 use Rattle.scene.specs.States.{state}
@@ -11,7 +12,6 @@ use Rattle.scene_reader.specs.declared.fault.SceneFault.{SceneFault}
 use Rattle.scene_reader.specs.declared.kind.Kind.{Kind}
 use Rattle.scene_reader.specs.Kinds.{numbers}
 use Rattle.scene_reader.specs.Scenes.{laid, node-at}
-use Rattle.scene_reader.specs.Held.{held}
 
 -- the node of a kind whose word stands at place k
 pub record Down (kind : Kind) (k : ℕ) (r : Result Unit SceneFault) (from after : Reader) (old new : Draft) : Type 0 where

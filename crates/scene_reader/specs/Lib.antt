@@ -1,5 +1,5 @@
 pub mod Told
 pub mod Kinds
 pub mod Scenes
-pub mod Held
 pub mod Down
+pub mod ScenesBack

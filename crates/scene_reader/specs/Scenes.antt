@@ -4,7 +4,7 @@ use mathlib.Core.Bool.{Bool, true, cond, _&&_}
 use mathlib.Core.List.{List, [], _∷_}
 use Prim.Native.Nat.{ℕ, zero, suc, _+_}
 use lib.Dec.{leb, ltb}
-use lib.IntN.{ℤ, pos, negsuc}
+use lib.IntN.{ℤ, pos}
 use lib.ListN.{length}
 use Rattle.std.specs.Results.{mapped}
 use Rattle.std.specs.declared.result.Result.{Result}
@@ -13,7 +13,7 @@ use Rattle.lattice.specs.declared.Point.{Point}
 use Rattle.solid.specs.Body.{Body}
 use Rattle.geometry.specs.Layers.{unite, meet}
 use Rattle.words.specs.declared.fault.WordFault.{WordFault}
-use Rattle.words.specs.Reading.{and-then, unless, kind-at, bare-at, number-in, point-at}
+use Rattle.words.specs.Reading.{and-then, unless, kind-at, bare-at, number-in, place-at, offset-at}
 use Rattle.scene.specs.declared.draft.DraftFault.{DraftFault}
 use Rattle.scene.specs.declared.draft.DraftFault.the-variants.{Full, TooFew, Inexact, Unfinished}
 use Rattle.scene.specs.Standing.{last-exact}
@@ -30,10 +30,6 @@ in-scene = mapped (λ x. x) Word
 -- a fault of a node, at a place
 abbrev pub at : {A : Type 0} → ℕ → Result A DraftFault → Result A SceneFault
 at k = mapped (λ x. x) (λ e. Node e k)
-
--- a point with its coordinates in -16384..16383
-abbrev pub place-at : List ℕ → (place : ℕ) → Result Point WordFault
-place-at bs k = point-at bs k (negsuc 16383) (pos 16383)
 
 -- is what a thickening takes exact?
 abbrev pub sure : Kind → List Body → Bool
@@ -59,7 +55,7 @@ laid bs k Ball s = and-then (in-scene (place-at bs (k + 1))) (λ m. and-then (in
 laid bs k Block s = and-then (in-scene (place-at bs (k + 1))) (λ lo. and-then (in-scene (place-at bs (k + 4))) (λ hi. at k (box-on lo hi s)))
 laid bs k Unite s = at k (two-on unite s)
 laid bs k Meet s = at k (two-on meet s)
-laid bs k Shift s = and-then (in-scene (point-at bs (k + 1) (negsuc 16382) (pos 16383))) (λ v. at k (shift-on v s))
+laid bs k Shift s = and-then (in-scene (offset-at bs (k + 1))) (λ v. at k (shift-on v s))
 laid bs k Thicken s = and-then (in-scene (number-in bs (k + 1) (pos 0) (pos 1023))) (λ h. at k (thicken-on h s))
 
 -- a whole node: what stands after it, and the place of the next
@@ -89,3 +85,8 @@ count-of bs = and-then (in-scene (kind-at bs 0 1 1)) (λ w. unless (leb 1 (w .1)
 -- the whole scene: that count, and its body
 unfoldable pub scene-of : List ℕ → Result (ℕ × Body) SceneFault
 scene-of bs = and-then (count-of bs) (λ n. and-then (nodes-from n bs n 1 0 []) (λ b. Ok (n, b)))
+
+-- the answer, and the body of the caller's scene after it: a refusal leaves the one that was there
+abbrev pub put-scene : Body → Result (ℕ × Body) SceneFault → Result Unit SceneFault × Body
+put-scene old (Ok x) = (Ok tt, x .1)
+put-scene old (Err e) = (Err e, old)

@@ -28,6 +28,7 @@ pub enum SceneFault {
 }
 
 const COUNT: u32 = 7;
+
 const NUMBERS: u32 = 12;
 
 pub impl Refusal for SceneFault as SceneRefusal {

@@ -15,10 +15,15 @@ pub enum Kind {
 
 /// The kinds of the words of nodes, from the first to the last.
 pub(crate) const BALL: u32 = 3;
+
 const BLOCK: u32 = 4;
+
 const UNITE: u32 = 5;
+
 const MEET: u32 = 6;
+
 const SHIFT: u32 = 7;
+
 pub(crate) const THICKEN: u32 = 8;
 
 impl Kind {

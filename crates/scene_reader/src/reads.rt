@@ -5,14 +5,14 @@ ghost use Prim.Native.Nat.{_+_, _≤_, _<_};
 ghost use Rattle.std.specs.Results.{Cases};
 ghost use Rattle.std.specs.Vec.{made, refused};
 ghost use Rattle.words.specs.Cursor.{text, place, ahead, Moved, Begun};
-ghost use Rattle.words.specs.Reading.{and-then};
+ghost use Rattle.words.specs.Reading.{and-then, held};
 ghost use Rattle.scene.specs.Scenes.{scene-body};
 ghost use Rattle.scene.specs.States.{state};
 ghost use Rattle.scene_reader.specs.declared.kind.Kind.the-variants.{Ball, Block, Unite, Meet, Shift, Thicken};
 ghost use Rattle.scene_reader.specs.Kinds.{numbers};
-ghost use Rattle.scene_reader.specs.Scenes.{at, sure, checked, laid, node-at, ended, nodes-from, count-of, scene-of};
-ghost use Rattle.scene_reader.specs.Held.{held, put-scene};
+ghost use Rattle.scene_reader.specs.Scenes.{at, sure, checked, laid, node-at, ended, nodes-from, count-of, scene-of, put-scene};
 ghost use Rattle.scene_reader.specs.Down.{Down};
+ghost use Rattle.scene_reader.specs.ScenesBack.{Scenes-read-back};
 use super::fault::SceneFault;
 use super::fault::SceneFromWord;
 use super::kind::BALL;
@@ -27,13 +27,17 @@ use words::reader::Reader;
 const SCENE: u32 = 1;
 /// The most words that a scene has after its start word, and the most nodes.
 const MOST_WORDS: u32 = 1792;
+
 const MOST_NODES: usize = 256;
 /// The range of centres and corners.
 const LEAST_COORDINATE: i32 = -16_384;
+
 const MOST_COORDINATE: i32 = 16_383;
 /// The most that a radius, a part of an offset and a thickness have, in size.
 const MOST_RADIUS: i32 = 16_383;
+
 const MOST_OFFSET: i32 = 16_383;
+
 const MOST_THICKNESS: i32 = 1023;
 
 /// The fault of the node at a place.
@@ -209,11 +213,13 @@ fn count(from: &mut Reader<'_>) -> Result<usize, SceneFault>
 }
 
 /// Reads a scene, which begins at the word that is due, into a place that the caller holds. A
-/// refused one leaves the reader and the caller's scene as they were.
+/// refused one leaves the reader and the caller's scene as they were. Every scene is read back from
+/// its words.
 pub fn read_scene(from: &mut Reader<'_>, scene: &mut Scene) -> Result<(), SceneFault>
     ensures value { λ r. ⌜ (r, scene-body (now (scene .exit))) ≡ put-scene (scene-body (now (scene .entry))) (scene-of (ahead (now (from .entry)))) ⌝ }
     ensures read { λ r. ⌜ Cases (scene-of (ahead (now (from .entry)))) (λ x. Begun (1 + x .0) (now (from .entry)) (now (from .exit))) (λ _. now (from .exit) ≡ now (from .entry)) ⌝ }
     ensures same { λ r. ⌜ refused r (λ _. now (scene .exit) ≡ now (scene .entry)) ⌝ }
+    ensures back { λ _. ⌜ Scenes-read-back ⌝ }
 {
     let mut ahead = *from;
     ahead.next_part();

@@ -3,7 +3,7 @@ use mathlib.Core.Bool.{Bool, true, false, cond, _&&_, _||_}
 use mathlib.Core.List.{List}
 use Prim.Native.Nat.{ℕ, _+_, _*_, _/_, _%_}
 use lib.Dec.{eqb, leb, ltb}
-use lib.IntN.{ℤ, pos}
+use lib.IntN.{ℤ, pos, negsuc}
 use lib.ListN.{length, getD}
 use lib.Signed.{leZ}
 use Rattle.std.specs.declared.result.Result.{Result}
@@ -17,6 +17,11 @@ use Rattle.words.specs.Words.{signed}
 abbrev pub and-then : {A B E : Type 0} → Result A E → (A → Result B E) → Result B E
 and-then (Ok x) f = f x
 and-then (Err e) f = Err e
+
+-- what a call answers, with a value that it leaves
+abbrev pub held : {A B E : Type 0} → Result A E → B → Result B E
+held (Ok x) y = Ok y
+held (Err e) y = Err e
 
 -- go on where the test holds, or stop at the fault
 abbrev pub unless : {A E : Type 0} → Bool → E → Result A E → Result A E
@@ -65,3 +70,11 @@ unfoldable pub point-at : List ℕ → (place : ℕ) → (lo hi : ℤ) → Resul
 point-at bs k lo hi =
     and-then (number-in bs k lo hi) (λ x. and-then (number-in bs (k + 1) lo hi) (λ y. and-then (number-in bs (k + 2) lo hi) (λ z.
     Ok (record { x = x; y = y; z = z }))))
+
+-- an origin, a centre or a corner: coordinates in -16384..16383
+abbrev pub place-at : List ℕ → (place : ℕ) → Result Point WordFault
+place-at bs k = point-at bs k (negsuc 16383) (pos 16383)
+
+-- an offset: parts in -16383..16383
+abbrev pub offset-at : List ℕ → (place : ℕ) → Result Point WordFault
+offset-at bs k = point-at bs k (negsuc 16382) (pos 16383)

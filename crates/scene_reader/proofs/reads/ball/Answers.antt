@@ -4,10 +4,10 @@ use Prim.Native.Nat.{_+_}
 use lib.IntN.{pos, negsuc}
 use Rattle.std.specs.declared.result.Result.the-variants.{Ok}
 use Rattle.words.specs.Cursor.{text}
-use Rattle.words.specs.Reading.{number-in}
+use Rattle.words.specs.Reading.{place-at, number-in}
 use Rattle.scene.specs.Laid.{ball-on}
 use Rattle.scene.specs.States.{state}
-use Rattle.scene_reader.specs.Scenes.{at, place-at, laid}
+use Rattle.scene_reader.specs.Scenes.{at, laid}
 use Rattle.scene_reader.proofs.Laying.{laying}
 use Rattle.scene_reader.proofs.reads.ball.Needs as need
 

@@ -4,9 +4,10 @@ use Prim.Native.Nat.{_+_}
 use lib.IntN.{pos, negsuc}
 use Rattle.std.specs.declared.result.Result.the-variants.{Ok}
 use Rattle.words.specs.Cursor.{text}
+use Rattle.words.specs.Reading.{place-at}
 use Rattle.scene.specs.Laid.{box-on}
 use Rattle.scene.specs.States.{state}
-use Rattle.scene_reader.specs.Scenes.{at, place-at, laid}
+use Rattle.scene_reader.specs.Scenes.{at, laid}
 use Rattle.scene_reader.proofs.Laying.{laying}
 use Rattle.scene_reader.proofs.reads.block.Needs as need
 

@@ -5,11 +5,10 @@ use Prim.Native.Nat.{_+_}
 use Rattle.std.specs.declared.result.Result.the-variants.{Ok}
 use Rattle.std.specs.Vec.{made}
 use Rattle.words.specs.Cursor.{text, place}
-use Rattle.words.specs.Reading.{bare-at}
+use Rattle.words.specs.Reading.{held, bare-at}
 use Rattle.scene.specs.States.{state}
 use Rattle.scene_reader.specs.Kinds.{numbers}
 use Rattle.scene_reader.specs.Scenes.{checked, laid, node-at}
-use Rattle.scene_reader.specs.Held.{held}
 use Rattle.scene_reader.proofs.Laying.{passes, joined, node-is, made-on}
 use Rattle.scene_reader.proofs.reads.node.Needs as need
 

@@ -3,12 +3,12 @@ use mathlib.Core.Path.{_≡_, ap, sym, _∙_}
 use mathlib.Core.List.{[]}
 use Rattle.std.specs.declared.result.Result.the-variants.{Ok, Err}
 use Rattle.words.specs.Cursor.{ahead}
-use Rattle.words.specs.Reading.{and-then}
+use Rattle.words.specs.Reading.{held, and-then}
 use Rattle.scene.specs.Scenes.{scene-body}
 use Rattle.scene.specs.States.{state}
 use Rattle.scene_reader.specs.Scenes.{at, ended, nodes-from, count-of, scene-of}
-use Rattle.scene_reader.specs.Held.{held}
 use Rattle.scene_reader.proofs.Ending.{ending, no-count, no-scene, a-scene, left}
+use Rattle.scene_reader.proofs.TreesBack.{scenes-back}
 use Rattle.scene_reader.proofs.reads.read_scene.Needs as need
 
 pub returns-in-Break-count : need.returns-in-Break-count
@@ -18,7 +18,7 @@ returns-in-Break-count c =
     let p : count-of bs ≡ Err e = search needs in
     let r : c .from-residual .result ≡ Err e = search needs in
     let z = no-count bs e p in
-    record { value = simp (z, r); read = simp z (search needs); same = search needs }
+    record { value = simp (z, r); read = simp z (search needs); same = search needs; back = scenes-back }
 
 pub returns-in-Break-nodes : need.returns-in-Break-nodes
 returns-in-Break-nodes c =
@@ -28,7 +28,7 @@ returns-in-Break-nodes c =
     let q : nodes-from (c .in-Continue-count .count) bs (c .in-Continue-count .count) 1 0 [] ≡ Err e = search needs in
     let r : c .from-residual-in-Break-nodes .result ≡ Err e = search needs in
     let z = no-scene bs _ e p q in
-    record { value = simp (z, r); read = simp z (search needs); same = search needs }
+    record { value = simp (z, r); read = simp z (search needs); same = search needs; back = scenes-back }
 
 pub returns-in-Break-at : need.returns-in-Break-at
 returns-in-Break-at c =
@@ -43,7 +43,7 @@ returns-in-Break-at c =
     let w : ended n s ≡ Err e = sym (ending n s _ (scene-body (c .fill .last .self)) (c .fill .result) (c .fill .ensures .value)) ∙ ap (λ x. held x (scene-body (c .fill .last .self))) t in
     let r : c .from-residual-in-Break-at .result ≡ Err e = search needs in
     let z = no-scene bs n e p (sym q ∙ w) in
-    record { value = simp (z, r, u); read = simp z (search needs); same = simp r (left n (c .fill .result) e _ t (c .fill .ensures .same)) }
+    record { value = simp (z, r, u); read = simp z (search needs); same = simp r (left n (c .fill .result) e _ t (c .fill .ensures .same)); back = scenes-back }
 
 pub returns : need.returns
 returns c =
@@ -55,4 +55,4 @@ returns c =
     let t : at n (c .fill .result) ≡ Ok (c .in-Continue-at .field-0) = search needs in
     let w : ended n s ≡ Ok (scene-body (c .fill .last .self)) = sym (ending n s _ (scene-body (c .fill .last .self)) (c .fill .result) (c .fill .ensures .value)) ∙ ap (λ x. held x (scene-body (c .fill .last .self))) t in
     let z = a-scene bs n _ p (sym q ∙ w) in
-    record { value = simp z; read = simp z (search needs); same = search needs }
+    record { value = simp z; read = simp z (search needs); same = search needs; back = scenes-back }

@@ -4,10 +4,10 @@ use Prim.Native.Nat.{_+_}
 use lib.IntN.{pos, negsuc}
 use Rattle.std.specs.declared.result.Result.the-variants.{Ok}
 use Rattle.words.specs.Cursor.{text}
-use Rattle.words.specs.Reading.{point-at}
+use Rattle.words.specs.Reading.{offset-at}
 use Rattle.scene.specs.Laid.{shift-on}
 use Rattle.scene.specs.States.{state}
-use Rattle.scene_reader.specs.Scenes.{at, place-at, laid}
+use Rattle.scene_reader.specs.Scenes.{at, laid}
 use Rattle.scene_reader.proofs.Laying.{laying}
 use Rattle.scene_reader.proofs.reads.shift.Needs as need
 
@@ -20,7 +20,7 @@ unfolding laid
 returns c =
     let bs = text (c .args .from .now) in
     let k = c .args .node in
-    let m : point-at bs (k + 1) (negsuc 16382) (pos 16383) ≡ Ok (c .in-Continue-by .by) = search needs in
+    let m : offset-at bs (k + 1) ≡ Ok (c .in-Continue-by .by) = search needs in
     let l = laying (shift-on (c .in-Continue-by .by)) (state (c .args .draft .now)) (state (c .shift .last .self)) k (c .shift .result) (c .pre .room) (search needs) in
     let a : c .at .result ≡ at k (c .shift .result) = search needs in
     record { value = rw a (simp (m) (l .0)); counted = rw a (l .1); text = search needs; moved = search needs }

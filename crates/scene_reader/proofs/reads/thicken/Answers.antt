@@ -7,7 +7,7 @@ use Rattle.words.specs.Cursor.{text}
 use Rattle.words.specs.Reading.{number-in}
 use Rattle.scene.specs.Laid.{thicken-on}
 use Rattle.scene.specs.States.{state}
-use Rattle.scene_reader.specs.Scenes.{at, place-at, laid}
+use Rattle.scene_reader.specs.Scenes.{at, laid}
 use Rattle.scene_reader.proofs.Laying.{laying}
 use Rattle.scene_reader.proofs.reads.thicken.Needs as need
 
