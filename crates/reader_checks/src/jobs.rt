@@ -74,12 +74,15 @@ fn every_kind_at_every_place_of_a_job(rt: LibcRuntime) -> Result<(), Fail> {
 
 #[test]
 fn every_unnamed_bit_of_a_job(rt: LibcRuntime) -> Result<(), Fail> {
-    for bit in 0..28 {
-        check_eq(told_with(&rt, 0, 0xd000_0000 + (1 << bit))?, (3, 0))?;
+    for bit in 0u32..28 {
+        check_eq(told_with(&rt, 0, 0xd000_0000 | (1u32 << bit))?, (3, 0))?;
     }
     for place in 1..20 {
-        for bit in 16..28 {
-            check_eq(told_with(&rt, place, 0x2000_0001 + (1 << bit))?, (3, place))?;
+        for bit in 16u32..28 {
+            check_eq(
+                told_with(&rt, place, 0x2000_0001 | (1u32 << bit))?,
+                (3, place),
+            )?;
         }
     }
     Ok(())

@@ -14,11 +14,17 @@ use std::test::*;
 use words::reader::Reader;
 
 const BALL: u32 = 0x3000_0000;
+
 const BOX: u32 = 0x4000_0000;
+
 const UNITE: u32 = 0x5000_0000;
+
 const MEET: u32 = 0x6000_0000;
+
 const SHIFT: u32 = 0x7000_0000;
+
 const THICKEN: u32 = 0x8000_0000;
+
 const ZERO: u32 = 0x2000_0000;
 /// The farthest shift on an axis.
 const FARTHEST: u32 = 0x2000_3fff;
@@ -135,17 +141,45 @@ fn counts_of_a_scene(rt: LibcRuntime) -> Result<(), Fail> {
 fn which_of_two_faults_comes_first(rt: LibcRuntime) -> Result<(), Fail> {
     // too few nodes stand, and the numbers pass the count: 12 comes first
     check_eq(told_of(&rt, &[0x1000_0001, SHIFT])?, (12, 1))?;
-    check_eq(told_of(&rt, &[0x1000_0004, SHIFT, ZERO, ZERO, ZERO])?, (9, 1))?;
+    check_eq(
+        told_of(&rt, &[0x1000_0004, SHIFT, ZERO, ZERO, ZERO])?,
+        (9, 1),
+    )?;
     check_eq(told_of(&rt, &[0x1000_0001, UNITE])?, (9, 1))?;
     check_eq(told_of(&rt, &[0x1000_0001, MEET])?, (9, 1))?;
-    check_eq(told_of(&rt, &[0x1000_0006, BALL, ZERO, ZERO, ZERO, ZERO, UNITE])?, (9, 6))?;
+    check_eq(
+        told_of(&rt, &[0x1000_0006, BALL, ZERO, ZERO, ZERO, ZERO, UNITE])?,
+        (9, 6),
+    )?;
     // a meet is thickened, by a number that is out of range: 10 comes first
     let thickened = [
-        0x1000_000d, BALL, ZERO, ZERO, ZERO, ZERO, BALL, ZERO, ZERO, ZERO, ZERO, MEET, THICKEN, 0x2000_7fff,
+        0x1000_000d,
+        BALL,
+        ZERO,
+        ZERO,
+        ZERO,
+        ZERO,
+        BALL,
+        ZERO,
+        ZERO,
+        ZERO,
+        ZERO,
+        MEET,
+        THICKEN,
+        0x2000_7fff,
     ];
     check_eq(told_of(&rt, &thickened)?, (10, 12))?;
     // crossed corners, and a later number out of range: the number comes first
-    let crossed = [0x1000_0007, BOX, 0x2000_0001, ZERO, ZERO, ZERO, ZERO, 0x2000_7fff];
+    let crossed = [
+        0x1000_0007,
+        BOX,
+        0x2000_0001,
+        ZERO,
+        ZERO,
+        ZERO,
+        ZERO,
+        0x2000_7fff,
+    ];
     check_eq(told_of(&rt, &crossed)?, (4, 7))
 }
 
@@ -165,7 +199,10 @@ fn ball_and(rt: &LibcRuntime, start: u32, node: &[u32], times: u32) -> Result<(u
 
 #[test]
 fn at_most_256_nodes(rt: LibcRuntime) -> Result<(), Fail> {
-    check_eq(ball_and(&rt, 0x1000_0203, &[THICKEN, ZERO], 255)?, (0, 1_048_576))?;
+    check_eq(
+        ball_and(&rt, 0x1000_0203, &[THICKEN, ZERO], 255)?,
+        (0, 1_048_576),
+    )?;
     check_eq(ball_and(&rt, 0x1000_0205, &[THICKEN, ZERO], 256)?, (8, 516))
 }
 

@@ -10,7 +10,13 @@ use std::test::*;
 use words::reader::Reader;
 
 /// Two columns by two.
-const SURFACE: [u32; 5] = [0x9002_0002, 0x2000_0003, 0x2000_8000, 0x2000_7fff, 0x2000_ffff];
+const SURFACE: [u32; 5] = [
+    0x9002_0002,
+    0x2000_0003,
+    0x2000_8000,
+    0x2000_7fff,
+    0x2000_ffff,
+];
 
 /// The number and the place of a refused surface, or (0, 0).
 fn told(bytes: &[u8], buffer: &mut [i16]) -> (u32, u32) {
@@ -29,20 +35,30 @@ fn heights_go_to_the_caller(rt: LibcRuntime) -> Result<(), Fail> {
     check_eq(heights, [3, -32768, 32767, -1, 7])
 }
 
+/// Cut at every byte.
+fn cut_everywhere(file: &[u8], heights: &mut [i16]) -> Result<(), Fail> {
+    for n in 0..20 {
+        check_eq(told(cut(file, n), heights), (1, n / 4))?;
+    }
+    Ok(())
+}
+
+/// Another word in the place of each height in turn.
+fn each_height(rt: &LibcRuntime, word: u32, by: u32, heights: &mut [i16]) -> Result<(), Fail> {
+    for place in 1..5 {
+        let file = with(rt.alloc(), &SURFACE, place, word)?;
+        check_eq(told(&file, heights), (by, place))?;
+    }
+    Ok(())
+}
+
 #[test]
 fn a_refused_surface_writes_no_height(rt: LibcRuntime) -> Result<(), Fail> {
     let file = file_of(rt.alloc(), &SURFACE)?;
     let mut heights = [7; 5];
-    for n in 0..20 {
-        check_eq(told(cut(&file, n), &mut heights), (1, n / 4))?;
-    }
-    check_eq(heights, [7; 5])?;
-    for place in 1..5 {
-        let bad = with(rt.alloc(), &SURFACE, place, 0x2001_0000)?;
-        check_eq(told(&bad, &mut heights), (3, place))?;
-        let other = with(rt.alloc(), &SURFACE, place, 0x3000_0000)?;
-        check_eq(told(&other, &mut heights), (2, place))?;
-    }
+    cut_everywhere(&file, &mut heights)?;
+    each_height(&rt, 0x2001_0000, 3, &mut heights)?;
+    each_height(&rt, 0x3000_0000, 2, &mut heights)?;
     check_eq(heights, [7; 5])
 }
 
