@@ -3,14 +3,19 @@ use std::alloc::AllocError;
 use std::alloc::Global;
 
 /// A number word.
-pub fn number(n: i16) -> u32 {
+pub(crate) fn number(n: i16) -> u32 {
     let n = n as i32;
     let low = if n < 0 { n + 0x1_0000 } else { n };
     0x2000_0000 + low as u32
 }
 
 /// The words as a file, the word at `place` in place of its own.
-pub fn with(heap: Global, words: &[u32], place: u32, word: u32) -> Result<Vec<u8>, AllocError> {
+pub(crate) fn with(
+    heap: Global,
+    words: &[u32],
+    place: u32,
+    word: u32,
+) -> Result<Vec<u8>, AllocError> {
     let mut file = Vec::new(heap);
     for (k, w) in words.iter().enumerate() {
         let put = if k == place as usize { word } else { *w };
@@ -22,7 +27,7 @@ pub fn with(heap: Global, words: &[u32], place: u32, word: u32) -> Result<Vec<u8
 }
 
 /// The words as a file.
-pub fn file_of(heap: Global, words: &[u32]) -> Result<Vec<u8>, AllocError> {
+pub(crate) fn file_of(heap: Global, words: &[u32]) -> Result<Vec<u8>, AllocError> {
     let mut file = Vec::new(heap);
     for w in words {
         for b in w.to_le_bytes() {
@@ -33,7 +38,7 @@ pub fn file_of(heap: Global, words: &[u32]) -> Result<Vec<u8>, AllocError> {
 }
 
 /// The first `n` bytes, or all where there are fewer.
-pub fn cut(bytes: &[u8], n: u32) -> &[u8] {
+pub(crate) fn cut(bytes: &[u8], n: u32) -> &[u8] {
     let n = n as usize;
     if n < bytes.len() { &bytes[0..n] } else { bytes }
 }

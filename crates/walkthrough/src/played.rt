@@ -122,7 +122,7 @@ fn without_it<S: Solid>(rt: &LibcRuntime, plate: &mut Plate, stock: &S) -> Resul
 }
 
 /// A scanned piece of stock, four columns by two, under a clamp that lies over two of them.
-pub fn play(rt: &LibcRuntime) -> Result<(), AnyError> {
+pub(super) fn play(rt: &LibcRuntime) -> Result<(), AnyError> {
     let heights: [i16; 8] = [3, 3, 2, 0, 1, 1, 1, -30];
     let stock = Surface::new(made(Sheet::check(4, 2, &heights))?, &heights);
     let clamp = made(AxisBox::new(point(1, 0, 5), point(2, 1, 8)))?;
