@@ -1,4 +1,6 @@
 //! Checks of the kit on worked numbers and on many cases.
+#![tactic(auto)]
+
 ghost use Rattle.std.specs.Prelude.{◌≡◌, length};
 ghost use Rattle.checks.specs.Worked.{table, Worked};
 

@@ -1,5 +1,7 @@
 //! Reads a model from standard input, and writes its depth image, or one word that says why it is
 //! refused, to standard output.
+#![tactic(auto)]
+
 use anyhow::anyhow;
 use kit::render;
 use march::pixel::Pixel;

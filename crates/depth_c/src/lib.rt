@@ -1,4 +1,6 @@
 //! The whole call, exported for a program in another language, which lends no records.
+#![tactic(auto)]
+
 ghost use Rattle.std.specs.Prelude.{◌≡◌};
 ghost use Rattle.depth_c.specs.Exported.{exported};
 

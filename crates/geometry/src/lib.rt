@@ -1,5 +1,7 @@
 //! What the leaves and the layers mean, what a pile of them is, and that all of them are lawful.
 //! The definitions stand in `specs/`, the laws in `proofs/`; the crates above cite both.
+#![tactic(auto)]
+
 ghost use Rattle.std.specs.Prelude.{◌≡◌, ℕ, Bool, true, Ok, Err};
 ghost use Rattle.lattice.specs.Space.{within};
 ghost use Rattle.lattice.specs.declared.Point.{Point as Place};

@@ -1,4 +1,6 @@
 //! One call from the bytes of a model to the bytes of its depth image.
+#![tactic(auto)]
+
 ghost use Rattle.std.specs.Prelude.{◌≡◌, ℕ, ◌*◌, ◌≤◌, Bool, true, ◌||◌, ◌++◌, length, drop, is_ok, IfOk, Ok, OnOk, ◌==◌};
 ghost use Rattle.lattice.specs.declared.Point.{Point as Place};
 ghost use Rattle.march.specs.Checks.{view_answer};

@@ -1,6 +1,8 @@
 //! Runs the whole call on a fixed sample: each line of standard input has an input and the output
 //! that an independent implementation gives it, both in hexadecimal. It tells how many agree, and
 //! what the call answers where it is lent too little.
+#![tactic(auto)]
+
 use anyhow::anyhow;
 use kit::render;
 use march::pixel::Pixel;

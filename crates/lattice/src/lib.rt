@@ -1,5 +1,7 @@
 //! The lattice on which the kit works: points of three whole numbers, their distance, and
 //! the directions in which a probe may travel.
+#![tactic(auto)]
+
 ghost use Rattle.std.specs.Prelude.{◌≡◌, ℕ, ◌+◌, ◌≤◌};
 ghost use Rattle.lattice.specs.Space.{dist, norm, within};
 

@@ -1,5 +1,7 @@
 //! The layers: solids made over other solids. Each holds the solids below it by value, and a
 //! solid that is lent is a solid too, so a layer may also stand over references.
+#![tactic(auto)]
+
 ghost use Rattle.std.specs.Prelude.{◌≡◌, ◌≤◌, min};
 ghost use Rattle.std.specs.Result.{result_map_both};
 ghost use Rattle.geometry.specs.Layers.{unite, meet, shift, thicken, capped};

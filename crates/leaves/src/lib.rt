@@ -1,4 +1,6 @@
 //! The leaves: solids that stand on no other, each known by its own numbers.
+#![tactic(auto)]
+
 mod axis;
 pub mod axis_box;
 pub mod ball;

@@ -1,4 +1,6 @@
 //! Rays that march to first contact, knowing only what a solid means.
+#![tactic(auto)]
+
 ghost use Rattle.std.specs.Prelude.{◌≡◌, ◌<◌, ◌≤◌, pos, ◌+ℤ◌, ◌*ℤ◌, unsigned_abs};
 ghost use Rattle.lattice.specs.Space.{In};
 ghost use Rattle.march.specs.View.{along, start};

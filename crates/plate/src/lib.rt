@@ -1,5 +1,7 @@
 //! The plate: pixels over the caller's records, swept and touched until every ray has settled,
 //! read one by one, and written as an image.
+#![tactic(auto)]
+
 ghost use Rattle.std.specs.Prelude.{◌≡◌, ℕ, ◌+◌, ◌-◌, ◌*◌, ◌<◌, ◌≤◌, true, ◌++◌, length, take, drop, replicate, pos, ◌+ℤ◌, ◌*ℤ◌, if◌then◌else◌, slice_index_or, slice_set, unsigned_abs};
 ghost use Rattle.std.proofs.Math.Seq.{paste};
 ghost use Rattle.lattice.specs.Space.{In};

@@ -1,3 +1,5 @@
 //! What a plate's log is, and what is promised of every log. The definitions stand in `specs/`,
 //! the proofs in `proofs/`; the plate's own contracts cite both.
+#![tactic(auto)]
+
 pub mod fault;

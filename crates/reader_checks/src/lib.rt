@@ -1,4 +1,6 @@
 //! The readers on whole files and on damaged ones.
+#![tactic(auto)]
+
 #[cfg(test)]
 mod drafts;
 #[cfg(test)]

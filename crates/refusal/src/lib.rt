@@ -1,4 +1,6 @@
 //! How the kit refuses: by a number and a place.
+#![tactic(auto)]
+
 ghost use Rattle.std.specs.Prelude.{◌≡◌, ℕ};
 
 /// What a refused call answers. Every enum of faults gives, for each of its cases, the number

@@ -1,4 +1,6 @@
 //! A scene: a tree of solids, laid down node by node, which is a solid itself.
+#![tactic(auto)]
+
 ghost use Rattle.std.specs.Prelude.{◌≡◌, true};
 ghost use Rattle.scene.specs.Standing.{standing, some, top};
 

@@ -1,5 +1,7 @@
 //! What a solid is, for all that is built on solids: a set of members among the points of the
 //! lattice, known only by the clearances that it answers.
+#![tactic(auto)]
+
 ghost use Rattle.std.specs.Prelude.{◌≡◌, ℕ, ◌≤◌, true};
 ghost use Rattle.solid.specs.Body.{Body, Lawful};
 ghost use Rattle.solid.specs.Answer.{answer};

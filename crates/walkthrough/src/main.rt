@@ -1,4 +1,6 @@
 //! One task from beginning to end, told in printed lines.
+#![tactic(auto)]
+
 use anyhow::anyhow;
 use lattice::Point;
 use layers::{Cap, LayerFault, Meet, Shift, Thicken, Unite};

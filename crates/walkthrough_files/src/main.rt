@@ -1,4 +1,6 @@
 //! The whole task through files: a model's bytes go in, and the bytes of its depth image come out.
+#![tactic(auto)]
+
 use anyhow::anyhow;
 use kit::render;
 use march::pixel::Pixel;

@@ -4,18 +4,18 @@ use Rattle.geometry.proofs.Asked.{refused_alike, told_alike, of_pile}
 use Rattle.geometry.proofs.Piles.{piles_stand}
 use Rattle.geometry.proofs.is_member.Goals as goal
 
-pub returns-in-err-c : goal.returns-in-err-c
-returns-in-err-c g c =
+pub returns-in_err-c : goal.returns-in_err-c
+returns-in_err-c g c =
     let b = g.S.Solid.body c.args.solid.now in
     let p = c.args.p in
     let r = c.from-residual.result in
     let e = err_from_is_err_and r c.from-residual.ensures.1 in
-    let v = e.1 ∙ ap Err e.2 ∙ refused_alike b p c.in-err-c.field-0.0 c.in-err-c.ensures in
+    let v = e.1 ∙ ap Err e.2 ∙ refused_alike b p c.in_err-c.field-0.0 c.in_err-c.ensures in
     record { value = v; algebra = of_pile b p r v; piles = piles_stand }
 
 pub returns : goal.returns
 returns g c =
     let b = g.S.Solid.body c.args.solid.now in
     let p = c.args.p in
-    let v = told_alike b p c.in-ok-c.c (g.S.Solid.lawful c.args.solid.now) c.in-ok-c.ensures in
+    let v = told_alike b p c.in_ok-c.c (g.S.Solid.lawful c.args.solid.now) c.in_ok-c.ensures in
     record { value = v; algebra = of_pile b p _ v; piles = piles_stand }

@@ -34,8 +34,8 @@ returns-then-job-eq0 c =
     (sides c.check.result c.unwrap-sheet.result size.width size.depth c.unwrap-sheet.ensures (c.check.ensures ∙ sheet_stands size.width size.depth _ c.requires.sides c.requires.heights))
     c.new-surface.ensures.sheet c.new-surface.ensures.heights (unguarded j.guard s c.if-job-eq0.true) in
     record {
-      value = c.pile-up.ensures.value ∙ ap (λ (b : Body). over b j.view c.args.records.now c.args.out.now) is;
-      shows = shown_so c.pile-up.result _ _ j.view (members (model_of (job_numbers j) s size hs)) c.pile-up.new.out is (model_piled j s size hs (scene_lawful c.args.scene.now) c.requires.exact) c.pile-up.ensures.shows;
+      value = c.pile_up.ensures.value ∙ ap (λ (b : Body). over b j.view c.args.records.now c.args.out.now) is;
+      shows = shown_so c.pile_up.result _ _ j.view (members (model_of (job_numbers j) s size hs)) c.pile_up.new.out is (model_piled j s size hs (scene_lawful c.args.scene.now) c.requires.exact) c.pile_up.ensures.shows;
     }
 
 pub thickened-thick-requires : goal.thickened-thick-requires
@@ -51,6 +51,6 @@ returns c =
     (sides c.check.result c.unwrap-sheet.result size.width size.depth c.unwrap-sheet.ensures (c.check.ensures ∙ sheet_stands size.width size.depth _ c.requires.sides c.requires.heights))
     c.new-surface.ensures.sheet c.new-surface.ensures.heights (c.thickened-thick.ensures ∙ on_guard j.guard s c.if-job-eq0.false) in
     record {
-      value = c.pile-up-2.ensures.value ∙ ap (λ (b : Body). over b j.view c.args.records.now c.args.out.now) is;
-      shows = shown_so c.pile-up-2.result _ _ j.view (members (model_of (job_numbers j) s size hs)) c.pile-up-2.new.out is (model_piled j s size hs (scene_lawful c.args.scene.now) c.requires.exact) c.pile-up-2.ensures.shows;
+      value = c.pile_up-2.ensures.value ∙ ap (λ (b : Body). over b j.view c.args.records.now c.args.out.now) is;
+      shows = shown_so c.pile_up-2.result _ _ j.view (members (model_of (job_numbers j) s size hs)) c.pile_up-2.new.out is (model_piled j s size hs (scene_lawful c.args.scene.now) c.requires.exact) c.pile_up-2.ensures.shows;
     }

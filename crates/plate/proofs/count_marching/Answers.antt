@@ -4,7 +4,7 @@ use Rattle.std.proofs.lemmas.Bool.{cond-true, cond-false}
 use Rattle.march.specs.March.{marches, fresh}
 use Rattle.plate_log.specs.Sweep.{marching}
 use Rattle.plate.proofs.count_marching.Goals as goal
-use Rattle.plate.proofs.count_marching.Goals.{then-is-marching, else-is-marching}
+use Rattle.plate.proofs.count_marching.Goals.{then-is_marching, else-is_marching}
 
 pub loop-pixel-preserved : goal.loop-pixel-preserved
 loop-pixel-preserved c =
@@ -12,9 +12,9 @@ loop-pixel-preserved c =
     let i = c.loop-pixel.pixel-index in
     let x = marches (get_or ps i fresh) in
     let d : marching (drop i ps) ≡ cond x 1 0 + marching (drop (i + 1) ps) = at_drop_more marching ps i fresh c.loop-pixel-test.true in
-    elim c.if-is-marching.branch [
-      | then-is-marching w ↦ let e : ◌≡◌ {A = ℕ} (cond x 1 0) 1 = cond-true x 1 0 (sym c.is-marching.ensures ∙ w.if-is-marching.true) in omega (arith, w.n-is)
-      | else-is-marching w ↦ let e : ◌≡◌ {A = ℕ} (cond x 1 0) 0 = cond-false x 1 0 (sym c.is-marching.ensures ∙ w.if-is-marching.false) in omega (arith, w.n-is)
+    elim c.if-is_marching.branch [
+      | then-is_marching w ↦ let e : ◌≡◌ {A = ℕ} (cond x 1 0) 1 = cond-true x 1 0 (sym c.is_marching.ensures ∙ w.if-is_marching.true) in omega (arith, w.n-is)
+      | else-is_marching w ↦ let e : ◌≡◌ {A = ℕ} (cond x 1 0) 0 = cond-false x 1 0 (sym c.is_marching.ensures ∙ w.if-is_marching.false) in omega (arith, w.n-is)
     ]
 
 pub returns : goal.returns

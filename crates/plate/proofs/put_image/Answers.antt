@@ -6,8 +6,8 @@ use Rattle.plate_log.proofs.Sanity.{sane_at, sane_more}
 use Rattle.plate_log.proofs.Bytes.{put_more, put_all}
 use Rattle.plate.proofs.put_image.Goals as goal
 
-pub word-of-requires : goal.word-of-requires
-word-of-requires c =
+pub word_of-requires : goal.word_of-requires
+word_of-requires c =
     let v = c.args.view.now in
     let ps = c.args.pixels.now in
     sane_more v.far 4095 (get_or ps c.loop-k.k fresh) v.close (sane_at v.far ps c.loop-k.k c.requires.sound c.loop-k-test.true)
@@ -15,7 +15,7 @@ word-of-requires c =
 pub loop-k-preserved : goal.loop-k-preserved
 loop-k-preserved c =
     put_more c.args.view.now c.args.pixels.now c.loop-k.out c.put-2.new.out c.put-in-loop-k.new.out c.loop-k.k c.loop-k-test.true c.loop-k.invariant
-    (c.put-in-loop-k.ensures ∙ ap (λ w. paste c.loop-k.out (8 + 4 * c.loop-k.k) (four w) 4) c.word-of.ensures)
+    (c.put-in-loop-k.ensures ∙ ap (λ w. paste c.loop-k.out (8 + 4 * c.loop-k.k) (four w) 4) c.word_of.ensures)
 
 pub returns : goal.returns
 returns c =

@@ -15,7 +15,7 @@ step-requires g c =
     let v = c.args.view.now in
     let h = sane_parts v.far c.in-Marching.t c.in-Marching.probes (sym (ap (sane v.far) c.in-Marching.is) ∙ c.loop-records.invariant.2) in
     record {
-      near = subst⁻¹ (In 16510) c.start-of-start.ensures (start_in v c.args.i c.args.j c.requires.within.0 c.requires.within.1);
+      near = subst⁻¹ (In 16510) c.start_of-start.ensures (start_in v c.args.i c.args.j c.requires.within.0 c.requires.within.1);
       within = (h.0, h.1);
       reaches = c.requires.reaches;
     }
@@ -30,7 +30,7 @@ loop-records-preserved g c =
     let n = c.in-Marching.probes in
     let q = c.step.result in
     let inside = c.loop-records.invariant.1 in
-    let is = stepped_at v b c.args.i c.args.j t n c.start-of-start.result q c.start-of-start.ensures c.step.ensures.value in (
+    let is = stepped_at v b c.args.i c.args.j t n c.start_of-start.result q c.start_of-start.ensures c.step.ensures.value in (
       omega arith,
       omega (arith, length-set rs k q),
       ap (sane v.far) (get_or-set_same rs k q fresh inside) ∙ c.step.ensures.sound,
@@ -49,6 +49,6 @@ pub returns : goal.returns
 returns g c =
     let v = c.args.view.now in
     let clear = clear_at v (g.S.Solid.body c.args.solid.now) c.args.i c.args.j in
-    let done = not_marching (get_or c.loop-records.records c.args.k fresh) c.in-default.not-Marching in
+    let done = not_marching (get_or c.loop-records.records c.args.k fresh) c.in_default.not-Marching in
     let o = touch_settled clear v.far c.args.k c.loop-records.spent c.args.budget c.loop-records.records _ done c.loop-records.invariant.0 c.loop-records.invariant.3 in
     record { value = o.0; spent = o.1; left = sym (ap (λ (b : Bool). cond b 1 0) done); sound = c.loop-records.invariant.2 }

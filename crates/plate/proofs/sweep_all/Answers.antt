@@ -23,7 +23,7 @@ step-requires g c =
     let sound = sane_at v.far c.loop-pixels.pixels k c.loop-pixels.invariant.1 c.loop-pixels.invariant.2 in
     let h = sane_parts v.far c.in-Marching.t c.in-Marching.probes (sym (ap (sane v.far) c.in-Marching.is) ∙ sound) in
     record {
-      near = subst⁻¹ (In 16510) c.start-of-start.ensures (start_in v c.loop-i.i c.sweep.j c.loop-i-test.true c.sweep-test.true);
+      near = subst⁻¹ (In 16510) c.start_of-start.ensures (start_in v c.loop-i.i c.sweep.j c.loop-i-test.true c.sweep-test.true);
       within = (h.0, h.1);
       reaches = c.requires.reaches;
     }
@@ -39,7 +39,7 @@ loop-pixels-preserved g c =
     let t = c.in-Marching.t in
     let n = c.in-Marching.probes in
     let q = c.step.result in
-    let is = stepped_place v b i j t n c.start-of-start.result q c.loop-i-test.true c.start-of-start.ensures c.step.ensures.value in (
+    let is = stepped_place v b i j t n c.start_of-start.result q c.loop-i-test.true c.start_of-start.ensures c.step.ensures.value in (
       omega arith,
       sane_set v.far ps k q c.loop-pixels.invariant.1 c.step.ensures.sound,
       omega (arith, length-set ps k q),
@@ -52,7 +52,7 @@ loop-i-preserved g c =
     let v = c.args.view.now in
     let b = g.S.Solid.body c.args.solid.now in
     let k = c.sweep.j * v.width + c.loop-i.i in
-    let done = not_marching (get_or c.loop-pixels.pixels k fresh) c.in-default.not-Marching in (
+    let done = not_marching (get_or c.loop-pixels.pixels k fresh) c.in_default.not-Marching in (
       c.loop-pixels.invariant.0,
       c.loop-pixels.invariant.1,
       next (along_ray v b) v.far k _ _ c.loop-pixels.pixels _ c.loop-pixels.invariant.2 done (omega arith) (c.loop-pixels.invariant.3 ∙ c.loop-i.invariant.2),

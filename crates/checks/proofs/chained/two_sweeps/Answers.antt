@@ -8,32 +8,32 @@ use Rattle.checks.proofs.Chain.{chained}
 use Rattle.checks.proofs.Ends.{opened_ends, swept_ends, read_ends, at_first, at_second, at_read}
 use Rattle.checks.proofs.chained.two_sweeps.Goals as goal
 
-pub returns-in-err-sweep : goal.returns-in-err-sweep
-returns-in-err-sweep g c =
+pub returns-in_err-sweep : goal.returns-in_err-sweep
+returns-in_err-sweep g c =
     let p = c.new-plate.result in
     let p0 = c.open.new.self in
-    let e = c.in-err-sweep.field-0.0 in
-    let r : c.from-residual-in-err-sweep.result ≡ Err e = search rules in
-    let o = opened_ends c.args.numbers (plain_view p.view) (plain_view p0.view) p.records.now p0.records.now (Ok tt) c.in-ok-open.ensures.value
+    let e = c.in_err-sweep.field-0.0 in
+    let r : c.from-residual-in_err-sweep.result ≡ Err e = search rules in
+    let o = opened_ends c.args.numbers (plain_view p.view) (plain_view p0.view) p.records.now p0.records.now (Ok tt) c.in_ok-open.ensures.value
     ∙ ap (λ (rs : List Pixel). opens (view_answer c.args.numbers) (length rs)) c.new-plate.ensures.value.0 in
     record {
-      ends = at_first _ _ _ _ _ _ e (plain_view p0.view) r o (swept_ends p0.view p0.records.now _ (g.A.Solid.body c.args.a.now) c.args.m (Err e) c.in-err-sweep.ensures.line);
+      ends = at_first _ _ _ _ _ _ e (plain_view p0.view) r o (swept_ends p0.view p0.records.now _ (g.A.Solid.body c.args.a.now) c.args.m (Err e) c.in_err-sweep.ensures.line);
       picture = search rules;
     }
 
-pub returns-in-err-sweep-2 : goal.returns-in-err-sweep-2
-returns-in-err-sweep-2 g c =
+pub returns-in_err-sweep-2 : goal.returns-in_err-sweep-2
+returns-in_err-sweep-2 g c =
     let p = c.new-plate.result in
     let p0 = c.open.new.self in
     let p1 = c.sweep.new.self in
-    let e = c.in-err-sweep-2.field-0.0 in
-    let r : c.from-residual-in-err-sweep-2.result ≡ Err e = search rules in
-    let o = opened_ends c.args.numbers (plain_view p.view) (plain_view p0.view) p.records.now p0.records.now (Ok tt) c.in-ok-open.ensures.value
+    let e = c.in_err-sweep-2.field-0.0 in
+    let r : c.from-residual-in_err-sweep-2.result ≡ Err e = search rules in
+    let o = opened_ends c.args.numbers (plain_view p.view) (plain_view p0.view) p.records.now p0.records.now (Ok tt) c.in_ok-open.ensures.value
     ∙ ap (λ (rs : List Pixel). opens (view_answer c.args.numbers) (length rs)) c.new-plate.ensures.value.0 in
     record {
       ends = at_second _ _ _ _ _ _ e (plain_view p0.view) r o
-          (swept_ends p0.view p0.records.now _ (g.A.Solid.body c.args.a.now) c.args.m (Ok c.in-ok-sweep.field-0) c.in-ok-sweep.ensures.line)
-          (swept_ends p1.view p1.records.now _ (g.B.Solid.body c.args.b.now) c.args.n (Err e) c.in-err-sweep-2.ensures.line);
+          (swept_ends p0.view p0.records.now _ (g.A.Solid.body c.args.a.now) c.args.m (Ok c.in_ok-sweep.field-0) c.in_ok-sweep.ensures.line)
+          (swept_ends p1.view p1.records.now _ (g.B.Solid.body c.args.b.now) c.args.n (Err e) c.in_err-sweep-2.ensures.line);
       picture = search rules;
     }
 
@@ -45,20 +45,20 @@ returns g c =
     let p2 = c.sweep-2.new.self in
     let a = c.args.a.now in
     let b = c.args.b.now in
-    let opened = c.in-ok-open.ensures in
+    let opened = c.in_ok-open.ensures in
     let o = opened_ends c.args.numbers (plain_view p.view) (plain_view p0.view) p.records.now p0.records.now (Ok tt) opened.value
     ∙ ap (λ (rs : List Pixel). opens (view_answer c.args.numbers) (length rs)) c.new-plate.ensures.value.0 in
     record {
       ends = at_read _ _ _ _ _ _ (plain_view p0.view) o
-          (swept_ends p0.view p0.records.now _ (g.A.Solid.body a) c.args.m (Ok c.in-ok-sweep.field-0) c.in-ok-sweep.ensures.line)
-          (swept_ends p1.view p1.records.now _ (g.B.Solid.body b) c.args.n (Ok c.in-ok-sweep-2.field-0) c.in-ok-sweep-2.ensures.line)
+          (swept_ends p0.view p0.records.now _ (g.A.Solid.body a) c.args.m (Ok c.in_ok-sweep.field-0) c.in_ok-sweep.ensures.line)
+          (swept_ends p1.view p1.records.now _ (g.B.Solid.body b) c.args.n (Ok c.in_ok-sweep-2.field-0) c.in_ok-sweep-2.ensures.line)
           (read_ends p2.view p2.records.now _ c.args.i c.args.j c.read.result c.read.ensures.line
           ∙ ap (λ (v : View). reads (plain_view v) c.args.i c.args.j) (c.sweep-2.ensures.view ∙ c.sweep.ensures.view));
       picture = chained p0.view p1.view p2.view c.sweep.ensures.view c.sweep-2.ensures.view
           c.args.numbers (opened_is c.args.numbers (plain_view p.view) p.records.now (plain_view p0.view) p0.records.now opened.value)
           (g.A.Solid.body a) (g.B.Solid.body b) c.args.m c.args.n c.args.i c.args.j
-          p0.records.now p1.records.now p2.records.now c.in-ok-sweep.field-0 c.in-ok-sweep-2.field-0 c.read.result
+          p0.records.now p1.records.now p2.records.now c.in_ok-sweep.field-0 c.in_ok-sweep-2.field-0 c.read.result
           (g.A.Solid.lawful a) (g.B.Solid.lawful b) opened.begins
-          c.in-ok-sweep.ensures.line c.in-ok-sweep-2.ensures.line
+          c.in_ok-sweep.ensures.line c.in_ok-sweep-2.ensures.line
           c.sweep.ensures.promise c.sweep-2.ensures.promise c.read.ensures.line;
     }

@@ -9,13 +9,13 @@ first : (r a b c k : ℕ) → fits r a b c k ≡ true → ((j : ℕ) → j < k �
 first r a b c k e below = least_is (max a (max b c)) (fits r a b c) k (fits_last r a b c (max a (max b c)) (omega arith) (omega arith) (omega arith)) e below
 
 pub returns-then-fits : goal.returns-then-fits
-returns-then-fits c = first c.args.radius c.args.a c.args.b c.args.c c.saturating-sub-low.result (sym c.if-fits.ensures) (λ k l. fits_far c.args.radius c.args.a c.args.b c.args.c k (omega arith))
+returns-then-fits c = first c.args.radius c.args.a c.args.b c.args.c c.saturating_sub-low.result (sym c.if-fits.ensures) (λ k l. fits_far c.args.radius c.args.a c.args.b c.args.c k (omega arith))
 
 pub loop-low-init : goal.loop-low-init
 loop-low-init c = (
   omega arith,
   omega arith,
-  fits_half c.args.radius c.args.a c.args.b c.args.c c.saturating-sub-high.result (omega arith),
+  fits_half c.args.radius c.args.a c.args.b c.args.c c.saturating_sub-high.result (omega arith),
   λ k l. fits_far c.args.radius c.args.a c.args.b c.args.c k (omega arith),
 )
 

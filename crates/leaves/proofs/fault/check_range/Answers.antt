@@ -4,9 +4,9 @@ use Rattle.geometry.proofs.Axes.{between_in}
 use Rattle.leaves.specs.Made.{ranged}
 use Rattle.leaves.proofs.fault.check_range.Goals as goal
 
-pub returns-then-not-lies-between : goal.returns-then-not-lies-between
+pub returns-then-not-lies_between : goal.returns-then-not-lies_between
 unfolding ranged
-returns-then-not-lies-between c = record { value = search rules; within = search rules }
+returns-then-not-lies_between c = record { value = search rules; within = search rules }
 
 pub returns : goal.returns
 unfolding ranged

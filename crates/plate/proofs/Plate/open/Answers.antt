@@ -9,13 +9,13 @@ use Rattle.plate_log.proofs.Calls.{new_room, new_front, new_sound}
 use Rattle.plate_log.proofs.Opens.{open_refused, open_few, open_done}
 use Rattle.plate.proofs.Plate.open.Goals as goal
 
-pub returns-in-err-view : goal.returns-in-err-view
-returns-in-err-view c =
+pub returns-in_err-view : goal.returns-in_err-view
+returns-in_err-view c =
     let p = c.args.self.now in
     let r = c.from-residual.result in
     let e = err_from_is_err_and r c.from-residual.ensures.1 in
     record {
-      value = open_refused c.args.numbers (plain_view p.view) p.records.now c.in-err-view.field-0.0 e.0 r c.in-err-view.ensures e.1 e.2;
+      value = open_refused c.args.numbers (plain_view p.view) p.records.now c.in_err-view.field-0.0 e.0 r c.in_err-view.ensures e.1 e.2;
       begins = MatchResult-from_err r _ _ c.from-residual.ensures.0 (λ _. refl);
       lender = refl;
       whole = whole;
@@ -25,15 +25,15 @@ pub returns-then-n-self : goal.returns-then-n-self
 returns-then-n-self c =
     let p = c.args.self.now in
     record {
-      value = open_few c.args.numbers (plain_view p.view) p.records.now (plain_view c.in-ok-view.view) c.in-ok-view.ensures c.if-n-self.true;
+      value = open_few c.args.numbers (plain_view p.view) p.records.now (plain_view c.in_ok-view.view) c.in_ok-view.ensures c.if-n-self.true;
       begins = refl;
       lender = refl;
       whole = whole;
     }
 
-pub invariant-of-self : goal.invariant-of-self
-invariant-of-self c =
-    let v = c.in-ok-view.view in
+pub invariant_of-self : goal.invariant_of-self
+invariant_of-self c =
+    let v = c.in_ok-view.view in
     let rs = c.take-records.result.now in
     let same = ap (λ (r : Bor (List Pixel)). length r.now) c.take-records.ensures.value in (
       new_room (area v) c.renew.new.records rs (omega arith) c.renew.ensures,
@@ -43,11 +43,11 @@ invariant-of-self c =
 pub returns : goal.returns
 returns c =
     let p = c.args.self.now in
-    let v = c.in-ok-view.view in
+    let v = c.in_ok-view.view in
     let rs = c.take-records.result.now in
     let same = ap (λ (r : Bor (List Pixel)). r.now) c.take-records.ensures.value in
     record {
-      value = open_done c.args.numbers (plain_view p.view) p.records.now (plain_view v) c.renew.new.records c.in-ok-view.ensures c.if-n-self.false
+      value = open_done c.args.numbers (plain_view p.view) p.records.now (plain_view v) c.renew.new.records c.in_ok-view.ensures c.if-n-self.false
           (c.renew.ensures ∙ ap (λ (rs : List Pixel). replicate (area v) fresh ++ drop (area v) rs) same);
       begins = new_front (area v) c.renew.new.records rs c.renew.ensures;
       lender = search rules;

@@ -14,18 +14,18 @@ returns-then-reach-lt-WORKING g c =
     let l = sweep_shallow p.view rs b c.args.budget (omega arith) in
     record { line = l; promise = promise p.view rs rs (sweeping b c.args.budget) _ p.room l; view = refl; lender = refl }
 
-pub count-marching-left-requires : goal.count-marching-left-requires
-count-marching-left-requires g c = short_pixels c.args.self.now.view _
+pub count_marching-left-requires : goal.count_marching-left-requires
+count_marching-left-requires g c = short_pixels c.args.self.now.view _
 
-pub invariant-of-self : goal.invariant-of-self
-invariant-of-self g c =
+pub invariant_of-self : goal.invariant_of-self
+invariant_of-self g c =
     let p = c.args.self.now in
     let v = p.view in
     let rs = c.take-records.result.now in
     let same = ap (λ (r : Bor (List Pixel)). length r.now) c.take-records.ensures.value in
-    let ps = c.sweep-all-spent.new.pixels in
-    let long = long_swept v rs ps (g.S.Solid.body c.args.solid.now) c.args.budget (omega (arith, p.room)) c.sweep-all-spent.ensures.value in
-    (front_room (area v) ps rs long, (front_sound v.far (area v) ps rs long c.sweep-all-spent.ensures.sound, tt))
+    let ps = c.sweep_all-spent.new.pixels in
+    let long = long_swept v rs ps (g.S.Solid.body c.args.solid.now) c.args.budget (omega (arith, p.room)) c.sweep_all-spent.ensures.value in
+    (front_room (area v) ps rs long, (front_sound v.far (area v) ps rs long c.sweep_all-spent.ensures.sound, tt))
 
 pub returns : goal.returns
 returns g c =
@@ -34,11 +34,11 @@ returns g c =
     let b = g.S.Solid.body c.args.solid.now in
     let rs = c.take-records.result.now in
     let same = ap (λ (r : Bor (List Pixel)). r.now) c.take-records.ensures.value in
-    let ps = c.sweep-all-spent.new.pixels in
+    let ps = c.sweep_all-spent.new.pixels in
     let qs = ps ++ drop (area v) rs in
     let room : area v ≤ length rs = omega (arith, p.room, ap length same) in
-    let long = long_swept v rs ps b c.args.budget room c.sweep-all-spent.ensures.value in
-    let left = c.count-marching-left.ensures ∙ ap marching (take_at ps (drop (area v) rs) (area v) long) in
-    let l = sweep_done v rs ps qs b c.args.budget c.sweep-all-spent.result c.count-marching-left.result (omega arith) c.sweep-all-spent.ensures.value c.sweep-all-spent.ensures.spent left refl
+    let long = long_swept v rs ps b c.args.budget room c.sweep_all-spent.ensures.value in
+    let left = c.count_marching-left.ensures ∙ ap marching (take_at ps (drop (area v) rs) (area v) long) in
+    let l = sweep_done v rs ps qs b c.args.budget c.sweep_all-spent.result c.count_marching-left.result (omega arith) c.sweep_all-spent.ensures.value c.sweep_all-spent.ensures.spent left refl
     ∙ ap (λ (rs : List Pixel). done v rs (sweeping b c.args.budget)) same in
     record { line = l; promise = promise v p.records.now qs (sweeping b c.args.budget) _ p.room l; view = refl; lender = search rules }

@@ -8,14 +8,14 @@ use Rattle.plate_log.proofs.Sanity.{sound_at, sound_set}
 use Rattle.plate_log.proofs.Calls.{promise, placed, touch_absent, touch_shallow, touch_done, touched_set}
 use Rattle.plate.proofs.Plate.touch.Goals as goal
 
-pub returns-in-err-k : goal.returns-in-err-k
-returns-in-err-k g c =
+pub returns-in_err-k : goal.returns-in_err-k
+returns-in_err-k g c =
     let p = c.args.self.now in
     let rs = p.records.now in
     let b = g.S.Solid.body c.args.solid.now in
     let r = c.from-residual.result in
     let e = err_from_is_err_and r c.from-residual.ensures.1 in
-    let l = touch_absent p.view rs c.args.i c.args.j b c.args.budget c.in-err-k.field-0.0 e.0 r c.in-err-k.ensures e.1 e.2 in
+    let l = touch_absent p.view rs c.args.i c.args.j b c.args.budget c.in_err-k.field-0.0 e.0 r c.in_err-k.ensures e.1 e.2 in
     record { line = l; promise = promise p.view rs rs (touching c.args.i c.args.j b c.args.budget) _ p.room l; view = refl; lender = refl }
 
 pub returns-then-reach-lt-WORKING : goal.returns-then-reach-lt-WORKING
@@ -23,17 +23,17 @@ returns-then-reach-lt-WORKING g c =
     let p = c.args.self.now in
     let rs = p.records.now in
     let b = g.S.Solid.body c.args.solid.now in
-    let at = placed p.view c.args.i c.args.j c.in-ok-k.k c.in-ok-k.ensures in
-    let l = touch_shallow p.view rs c.args.i c.args.j c.in-ok-k.k b c.args.budget at (omega arith) in
+    let at = placed p.view c.args.i c.args.j c.in_ok-k.k c.in_ok-k.ensures in
+    let l = touch_shallow p.view rs c.args.i c.args.j c.in_ok-k.k b c.args.budget at (omega arith) in
     record { line = l; promise = promise p.view rs rs (touching c.args.i c.args.j b c.args.budget) _ p.room l; view = refl; lender = refl }
 
 pub settle-counts-requires : goal.settle-counts-requires
 settle-counts-requires g c =
     let p = c.args.self.now in
     let v = p.view in
-    let k = c.in-ok-k.k in
+    let k = c.in_ok-k.k in
     let same = ap (λ (r : Bor (List Pixel)). r.now) c.take-records.ensures.value in
-    let at = placed v c.args.i c.args.j k c.in-ok-k.ensures in
+    let at = placed v c.args.i c.args.j k c.in_ok-k.ensures in
     record {
       there = omega (arith, at.inside, p.room, ap length same);
       within = at.within;
@@ -41,14 +41,14 @@ settle-counts-requires g c =
       sound = ap (λ (rs : List Pixel). sane v.far (get_or rs k fresh)) same ∙ sound_at v.far (area v) k p.records.now p.sound at.inside p.room;
     }
 
-pub invariant-of-self : goal.invariant-of-self
-invariant-of-self g c =
+pub invariant_of-self : goal.invariant_of-self
+invariant_of-self g c =
     let p = c.args.self.now in
     let v = p.view in
-    let k = c.in-ok-k.k in
+    let k = c.in_ok-k.k in
     let rs = c.take-records.result.now in
     let same = ap (λ (r : Bor (List Pixel)). r.now) c.take-records.ensures.value in
-    let at = placed v c.args.i c.args.j k c.in-ok-k.ensures in
+    let at = placed v c.args.i c.args.j k c.in_ok-k.ensures in
     let qs = c.settle-counts.new.records in
     let q = get_or qs k fresh in
     let is : qs ≡ set rs k q = touched_set rs qs k _ (omega (arith, at.inside, p.room, ap length same)) c.settle-counts.ensures.value in
@@ -64,12 +64,12 @@ returns g c =
     let b = g.S.Solid.body c.args.solid.now in
     let i = c.args.i in
     let j = c.args.j in
-    let k = c.in-ok-k.k in
+    let k = c.in_ok-k.k in
     let rs = c.take-records.result.now in
     let same = ap (λ (r : Bor (List Pixel)). r.now) c.take-records.ensures.value in
     let room : area v ≤ length rs = omega (arith, p.room, ap length same) in
     let qs = c.settle-counts.new.records in
     let e = c.settle-counts.ensures in
-    let l = touch_done v rs qs i j k b c.args.budget c.settle-counts.result.0 c.settle-counts.result.1 room (placed v i j k c.in-ok-k.ensures) (omega arith) e.value e.spent e.left
+    let l = touch_done v rs qs i j k b c.args.budget c.settle-counts.result.0 c.settle-counts.result.1 room (placed v i j k c.in_ok-k.ensures) (omega arith) e.value e.spent e.left
     ∙ ap (λ (rs : List Pixel). done v rs (touching i j b c.args.budget)) same in
     record { line = l; promise = promise v p.records.now qs (touching i j b c.args.budget) _ p.room l; view = refl; lender = search rules }

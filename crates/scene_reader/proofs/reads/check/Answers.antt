@@ -2,9 +2,9 @@ use Rattle.std.proofs.Common.{rules}
 use Rattle.scene_reader.specs.Scenes.{checked}
 use Rattle.scene_reader.proofs.reads.check.Goals as goal
 
-pub returns-then-nodes-ge-MOST-NODES : goal.returns-then-nodes-ge-MOST-NODES
+pub returns-then-nodes-ge-MOST_NODES : goal.returns-then-nodes-ge-MOST_NODES
 unfolding checked
-returns-then-nodes-ge-MOST-NODES c = search rules
+returns-then-nodes-ge-MOST_NODES c = search rules
 
 pub returns-then-place-numbers : goal.returns-then-place-numbers
 unfolding checked

@@ -7,17 +7,17 @@ use Rattle.scene_reader.specs.Scenes.{checked, laid, node_at}
 use Rattle.scene_reader.proofs.Laying.{passes, joined, node_is, made_on}
 use Rattle.scene_reader.proofs.reads.node.Goals as goal
 
-pub returns-in-err-bare : goal.returns-in-err-bare
+pub returns-in_err-bare : goal.returns-in_err-bare
 unfolding node_at
-returns-in-err-bare c = record { value = search rules; counted = search rules; text = search rules; within = search rules; onward = search rules }
+returns-in_err-bare c = record { value = search rules; counted = search rules; text = search rules; within = search rules; onward = search rules }
 
-pub returns-in-err-check : goal.returns-in-err-check
+pub returns-in_err-check : goal.returns-in_err-check
 unfolding node_at
-returns-in-err-check c = record { value = search rules; counted = search rules; text = search rules; within = search rules; onward = search rules }
+returns-in_err-check c = record { value = search rules; counted = search rules; text = search rules; within = search rules; onward = search rules }
 
 pub lay-requires : goal.lay-requires
 lay-requires c =
-    let h : checked c.args.count c.place-place.result (state c.args.draft.now).0 c.of_kind.result (state c.args.draft.now).1 ≡ Ok c.in-ok-check.field-0 = search rules in
+    let h : checked c.args.count c.place-place.result (state c.args.draft.now).0 c.of_kind.result (state c.args.draft.now).1 ≡ Ok c.in_ok-check.field-0 = search rules in
     record { here = search rules; room = (passes c.args.count c.place-place.result (state c.args.draft.now).0 c.of_kind.result (state c.args.draft.now).1 _ h).0 }
 
 pub returns : goal.returns
@@ -27,8 +27,8 @@ returns c =
     let x = state c.args.draft.now in
     let kind = c.of_kind.result in
     let p : c.place-place.result ≡ k = search rules in
-    let b : bare_at bs k 3 8 ≡ Ok c.in-ok-bare.field-0 = search rules in
-    let h : checked c.args.count k x.0 kind x.1 ≡ Ok c.in-ok-check.field-0 = search rules in
+    let b : bare_at bs k 3 8 ≡ Ok c.in_ok-bare.field-0 = search rules in
+    let h : checked c.args.count k x.0 kind x.1 ≡ Ok c.in_ok-check.field-0 = search rules in
     let v : held c.lay.result (state c.lay.new.draft).1 ≡ laid bs k kind x.1 = search rules in
     let m : IfOk c.lay.result (λ _. place c.lay.new.from ≡ k + 1 + numbers kind) = subst (λ z. IfOk c.lay.result (λ _. place c.lay.new.from ≡ z + 1 + numbers kind)) p c.lay.ensures.moved in
     let w = (passes c.args.count k x.0 kind x.1 _ h).1 in

@@ -19,18 +19,18 @@ loop-from-preserved c =
     let y = state c.node.new.draft in
     let t = c.place.ensures in
     let p : node_at bs c.args.count k x.0 x.1 ≡ Ok (y.1, place c.node.new.from) = search rules in
-    let q = c.in-ok-node.ensures.counted in
-    let o = c.in-ok-node.ensures.onward in
-    let w = c.in-ok-node.ensures.within in
+    let q = c.in_ok-node.ensures.counted in
+    let o = c.in_ok-node.ensures.onward in
+    let w = c.in_ok-node.ensures.within in
     let l = c.loop-from.invariant.3 in
     (c.loop-from.invariant.0 ∙ go_on bs c.args.count k x.0 x.1 (omega arith) l y.0 (place c.node.new.from) y.1 p q, search rules, w, omega arith)
 
-pub returns-in-err-node : goal.returns-in-err-node
-returns-in-err-node c =
+pub returns-in_err-node : goal.returns-in_err-node
+returns-in_err-node c =
     let bs = text c.args.from.now in
     let k = place c.loop-from.from in
     let x = state c.loop-from.draft in
-    let e = c.in-err-node.field-0.0 in
+    let e = c.in_err-node.field-0.0 in
     let t = c.place.ensures in
     let l = c.loop-from.invariant.3 in
     let p : node_at bs c.args.count k x.0 x.1 ≡ Err e = search rules in

@@ -8,48 +8,48 @@ use Rattle.scene_reader.proofs.Ending.{ending, no_count, no_scene, a_scene, left
 use Rattle.scene_reader.proofs.TreesBack.{scenes_back}
 use Rattle.scene_reader.proofs.reads.read_scene.Goals as goal
 
-pub returns-in-err-count : goal.returns-in-err-count
-returns-in-err-count c =
+pub returns-in_err-count : goal.returns-in_err-count
+returns-in_err-count c =
     let bs = ahead c.args.from.now in
-    let e = c.in-err-count.field-0.0 in
+    let e = c.in_err-count.field-0.0 in
     let p : count_of bs ≡ Err e = search rules in
     let r : c.from-residual.result ≡ Err e = search rules in
     let z = no_count bs e p in
     record { value = simp (z, r); read = simp z (search rules); same = search rules; back = scenes_back }
 
-pub returns-in-err-nodes : goal.returns-in-err-nodes
-returns-in-err-nodes c =
+pub returns-in_err-nodes : goal.returns-in_err-nodes
+returns-in_err-nodes c =
     let bs = ahead c.args.from.now in
-    let e = c.in-err-nodes.field-0.0 in
-    let p : count_of bs ≡ Ok c.in-ok-count.count = search rules in
-    let q : nodes_from c.in-ok-count.count bs c.in-ok-count.count 1 0 [] ≡ Err e = search rules in
-    let r : c.from-residual-in-err-nodes.result ≡ Err e = search rules in
+    let e = c.in_err-nodes.field-0.0 in
+    let p : count_of bs ≡ Ok c.in_ok-count.count = search rules in
+    let q : nodes_from c.in_ok-count.count bs c.in_ok-count.count 1 0 [] ≡ Err e = search rules in
+    let r : c.from-residual-in_err-nodes.result ≡ Err e = search rules in
     let z = no_scene bs _ e p q in
     record { value = simp (z, r); read = simp z (search rules); same = search rules; back = scenes_back }
 
-pub returns-in-err-at : goal.returns-in-err-at
-returns-in-err-at c =
+pub returns-in_err-at : goal.returns-in_err-at
+returns-in_err-at c =
     let bs = ahead c.args.from.now in
-    let n = c.in-ok-count.count in
+    let n = c.in_ok-count.count in
     let s = (state c.nodes.new.draft).1 in
-    let e = c.in-err-at.field-0.0 in
+    let e = c.in_err-at.field-0.0 in
     let p : count_of bs ≡ Ok n = search rules in
     let q : ended n s ≡ nodes_from n bs n 1 0 [] = search rules in
     let t : at n c.fill.result ≡ Err e = search rules in
     let u : scene_body c.fill.new.self ≡ scene_body c.args.scene.now = ap scene_body (left n c.fill.result e _ t c.fill.ensures.same) in
     let w : ended n s ≡ Err e = sym (ending n s _ (scene_body c.fill.new.self) c.fill.result c.fill.ensures.value) ∙ ap (λ x. held x (scene_body c.fill.new.self)) t in
-    let r : c.from-residual-in-err-at.result ≡ Err e = search rules in
+    let r : c.from-residual-in_err-at.result ≡ Err e = search rules in
     let z = no_scene bs n e p (sym q ∙ w) in
     record { value = simp (z, r, u); read = simp z (search rules); same = simp r (left n c.fill.result e _ t c.fill.ensures.same); back = scenes_back }
 
 pub returns : goal.returns
 returns c =
     let bs = ahead c.args.from.now in
-    let n = c.in-ok-count.count in
+    let n = c.in_ok-count.count in
     let s = (state c.nodes.new.draft).1 in
     let p : count_of bs ≡ Ok n = search rules in
     let q : ended n s ≡ nodes_from n bs n 1 0 [] = search rules in
-    let t : at n c.fill.result ≡ Ok c.in-ok-at.field-0 = search rules in
+    let t : at n c.fill.result ≡ Ok c.in_ok-at.field-0 = search rules in
     let w : ended n s ≡ Ok (scene_body c.fill.new.self) = sym (ending n s _ (scene_body c.fill.new.self) c.fill.result c.fill.ensures.value) ∙ ap (λ x. held x (scene_body c.fill.new.self)) t in
     let z = a_scene bs n _ p (sym q ∙ w) in
     record { value = simp z; read = simp z (search rules); same = search rules; back = scenes_back }

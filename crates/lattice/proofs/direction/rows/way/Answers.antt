@@ -2,8 +2,8 @@ use Rattle.std.proofs.Common.{◌≡◌, ◌+◌, ◌/◌, ◌%◌, ◌<◌, ◌
 use Rattle.lattice.proofs.Ways.{short, moves, x_is, y_is, z_is}
 use Rattle.lattice.proofs.direction.rows.way.Goals as goal
 
-pub invariant-of-result : goal.invariant-of-result
-invariant-of-result c =
+pub invariant_of-result : goal.invariant_of-result
+invariant_of-result c =
     let k = c.args.k in
     let t = c.triple-x.result in
     let ex = ap nat_abs (x_is t k c.requires.0 c.triple-x.ensures) in

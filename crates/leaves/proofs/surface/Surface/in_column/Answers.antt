@@ -10,7 +10,7 @@ pub returns : goal.returns
 returns c =
     let s = c.args.self.now in
     let p = c.args.p in
-    let h = c.height-at.result in
+    let h = c.height_at.result in
     let ex : between (pos 0) (last s.sheet.width) p.x ≡ true = search (rules, to_z-of_z) in
     let ey : between (pos 0) (last s.sheet.depth) p.y ≡ true = search (rules, to_z-of_z) in
     let ez : to_z w32 (of_z w32 p.z) ≡ p.z = search (rules, to_z-of_z) in

@@ -12,4 +12,4 @@ returns c =
     let ex : c.beside-x.result ≡ beside (pos 0) (last s.sheet.width) p.x = search (rules, to_z-of_z) in
     let ey : c.beside-y.result ≡ beside (pos 0) (last s.sheet.depth) p.y = search (rules, to_z-of_z) in
     let ez : c.above-z.result ≡ above p.z s.top = search (rules, to_z-of_z) in
-    asked_off s.sheet.width s.sheet.depth s.heights.now p s.top c.max-3.result c.beside-x.result c.beside-y.result c.above-z.result (sym c.if-not-within.ensures) (sym c.if-in-column.ensures) s.highest ex ey ez (omega arith)
+    asked_off s.sheet.width s.sheet.depth s.heights.now p s.top c.max-3.result c.beside-x.result c.beside-y.result c.above-z.result (sym c.if-not-within.ensures) (sym c.if-in_column.ensures) s.highest ex ey ez (omega arith)

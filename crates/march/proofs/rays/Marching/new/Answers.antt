@@ -4,8 +4,8 @@ use Rattle.lattice.specs.Space.{In}
 use Rattle.march.proofs.Space.{start_in}
 use Rattle.march.proofs.rays.Marching.new.Goals as goal
 
-pub invariant-of-result : goal.invariant-of-result
-invariant-of-result c =
-    let v = c.in-ok-view.view in
-    let p = subst⁻¹ (In 16510) c.start-of.ensures (start_in v c.args.i c.args.j (omega arith) (omega arith)) in
+pub invariant_of-result : goal.invariant_of-result
+invariant_of-result c =
+    let v = c.in_ok-view.view in
+    let p = subst⁻¹ (In 16510) c.start_of.ensures (start_in v c.args.i c.args.j (omega arith) (omega arith)) in
     (p.0, (p.1, (p.2, (v.close, (omega arith, (omega arith, tt))))))

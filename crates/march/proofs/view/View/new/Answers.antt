@@ -3,22 +3,22 @@ use Rattle.march.specs.Checks.{way}
 use Rattle.march.proofs.Numbers.{origin_near, sizes_small, view_made, sizes_refused}
 use Rattle.march.proofs.view.View.new.Goals as goal
 
-pub returns-in-err-width : goal.returns-in-err-width
-returns-in-err-width c =
-    let w = c.in-ok-ray in
-    let h = sizes_refused c.args.numbers c.in-ok-origin.origin (way w.ray, way w.across, way w.down) c.in-ok-origin.ensures w.ensures c.in-err-width.field-0.0 c.in-err-width.ensures in
+pub returns-in_err-width : goal.returns-in_err-width
+returns-in_err-width c =
+    let w = c.in_ok-ray in
+    let h = sizes_refused c.args.numbers c.in_ok-origin.origin (way w.ray, way w.across, way w.down) c.in_ok-origin.ensures w.ensures c.in_err-width.field-0.0 c.in_err-width.ensures in
     search rules
 
-pub invariant-of-result : goal.invariant-of-result
-invariant-of-result c =
+pub invariant_of-result : goal.invariant_of-result
+invariant_of-result c =
     let n = c.args.numbers in
-    let o = origin_near n c.in-ok-origin.origin c.in-ok-origin.ensures in
-    let s = c.in-ok-width in
+    let o = origin_near n c.in_ok-origin.origin c.in_ok-origin.ensures in
+    let s = c.in_ok-width in
     let z = sizes_small n (s.width, s.height, s.far) s.ensures in
     (o.0, (o.1, (o.2, (z.0, (z.1, (z.2, tt))))))
 
 pub returns : goal.returns
 returns c =
-    let w = c.in-ok-ray in
-    let s = c.in-ok-width in
-    view_made c.args.numbers c.in-ok-origin.origin (way w.ray, way w.across, way w.down) c.in-ok-origin.ensures w.ensures (s.width, s.height, s.far) s.ensures
+    let w = c.in_ok-ray in
+    let s = c.in_ok-width in
+    view_made c.args.numbers c.in_ok-origin.origin (way w.ray, way w.across, way w.down) c.in_ok-origin.ensures w.ensures (s.width, s.height, s.far) s.ensures

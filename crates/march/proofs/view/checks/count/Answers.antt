@@ -2,9 +2,9 @@ use Rattle.std.proofs.Common.{rules}
 use Rattle.march.specs.Checks.{count_answer}
 use Rattle.march.proofs.view.checks.count.Goals as goal
 
-pub returns-in-err-ranged : goal.returns-in-err-ranged
+pub returns-in_err-ranged : goal.returns-in_err-ranged
 unfolding count_answer
-returns-in-err-ranged c = search rules
+returns-in_err-ranged c = search rules
 
 pub returns : goal.returns
 unfolding count_answer

@@ -2,17 +2,17 @@ use Rattle.std.proofs.Common.{rules}
 use Rattle.march.specs.Checks.{ways_answer}
 use Rattle.march.proofs.view.checks.ways.Goals as goal
 
-pub returns-in-err-ray : goal.returns-in-err-ray
+pub returns-in_err-ray : goal.returns-in_err-ray
 unfolding ways_answer
-returns-in-err-ray c = search rules
+returns-in_err-ray c = search rules
 
-pub returns-in-err-across : goal.returns-in-err-across
+pub returns-in_err-across : goal.returns-in_err-across
 unfolding ways_answer
-returns-in-err-across c = search rules
+returns-in_err-across c = search rules
 
-pub returns-in-err-down : goal.returns-in-err-down
+pub returns-in_err-down : goal.returns-in_err-down
 unfolding ways_answer
-returns-in-err-down c = search rules
+returns-in_err-down c = search rules
 
 pub returns : goal.returns
 unfolding ways_answer

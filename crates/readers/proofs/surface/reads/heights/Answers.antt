@@ -5,10 +5,10 @@ use Rattle.words.specs.Reading.{number_at}
 use Rattle.readers.proofs.Sheets.{stop, go_on, at_end}
 use Rattle.readers.proofs.surface.reads.heights.Goals as goal
 
-pub returns-in-err-sheet : goal.returns-in-err-sheet
-returns-in-err-sheet c =
+pub returns-in_err-sheet : goal.returns-in_err-sheet
+returns-in_err-sheet c =
     let bs = c.args.from.now.bytes.now in
-    let e = c.in-err-sheet.field-0.0 in
+    let e = c.in_err-sheet.field-0.0 in
     let p : number_at bs c.loop-k.from.at ≡ Err e = search rules in
     let r : c.from-residual.result ≡ Err e = search rules in
     record {
@@ -20,9 +20,9 @@ returns-in-err-sheet c =
 pub loop-k-preserved : goal.loop-k-preserved
 loop-k-preserved c =
     let bs = c.args.from.now.bytes.now in
-    let p : number_at bs c.loop-k.from.at ≡ Ok c.in-ok-sheet.field-0 = search rules in
-    let m = c.in-ok-sheet.ensures.moved.at in
-    let f : SFits w16 c.in-ok-sheet.field-0 = search rules in
+    let p : number_at bs c.loop-k.from.at ≡ Ok c.in_ok-sheet.field-0 = search rules in
+    let m = c.in_ok-sheet.ensures.moved.at in
+    let f : SFits w16 c.in_ok-sheet.field-0 = search rules in
     (c.loop-k.invariant.0 ∙ go_on bs _ _ _ c.loop-k-test.true _ _ c.loop-k.sheet _ (omega arith) p (to_z-of_z w16 _ f) m, search rules, search rules)
 
 pub returns : goal.returns

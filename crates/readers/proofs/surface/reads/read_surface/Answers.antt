@@ -3,13 +3,13 @@ use Rattle.readers.specs.Surfaces.{surface_of}
 use Rattle.readers.proofs.SheetBack.{surfaces_back}
 use Rattle.readers.proofs.surface.reads.read_surface.Goals as goal
 
-pub returns-in-err-size : goal.returns-in-err-size
+pub returns-in_err-size : goal.returns-in_err-size
 unfolding surface_of
-returns-in-err-size c = record { value = search rules; read = search rules; same = search rules; back = surfaces_back }
+returns-in_err-size c = record { value = search rules; read = search rules; same = search rules; back = surfaces_back }
 
-pub returns-in-err-heights : goal.returns-in-err-heights
+pub returns-in_err-heights : goal.returns-in_err-heights
 unfolding surface_of
-returns-in-err-heights c = record { value = search rules; read = search rules; same = search rules; back = surfaces_back }
+returns-in_err-heights c = record { value = search rules; read = search rules; same = search rules; back = surfaces_back }
 
 pub returns : goal.returns
 unfolding surface_of

@@ -2,9 +2,9 @@ use Rattle.std.proofs.Common.{map, refl, ap, ◌∙◌, arith}
 use Rattle.scene.specs.Standing.{gathered, standing, summed}
 use Rattle.scene.proofs.draft.Draft.new.Goals as goal
 
-pub invariant-of-result : goal.invariant-of-result
+pub invariant_of-result : goal.invariant_of-result
 unfolding gathered
-invariant-of-result c = (omega arith, (ap (λ n. map summed (standing c.new.result.nodes n)) c.new.ensures, tt))
+invariant_of-result c = (omega arith, (ap (λ n. map summed (standing c.new.result.nodes n)) c.new.ensures, tt))
 
 pub returns : goal.returns
 unfolding gathered

@@ -3,11 +3,11 @@ use Rattle.scene.specs.Standing.{summed}
 use Rattle.scene.proofs.Summaries.{height, tallied}
 use Rattle.scene.proofs.draft.Draft.put.Goals as goal
 
-pub overflow-sub-below : goal.overflow-sub-below
-overflow-sub-below c = omega (arith, height _ _ _ c.args.self.now.tally, c.requires.enough)
+pub overflow_sub-below : goal.overflow_sub-below
+overflow_sub-below c = omega (arith, height _ _ _ c.args.self.now.tally, c.requires.enough)
 
-pub invariant-of-self : goal.invariant-of-self
-invariant-of-self c =
+pub invariant_of-self : goal.invariant_of-self
+invariant_of-self c =
     let d = c.args.self.now in
     let l : c.args.taken ≤ d.height = omega (arith, height _ _ _ d.tally, c.requires.enough) in
     let m : d.height - c.args.taken < length d.summaries = search rules in

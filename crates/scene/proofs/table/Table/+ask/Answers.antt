@@ -7,11 +7,11 @@ use Rattle.scene.specs.Standing.{standing, some, top, rest}
 use Rattle.scene.proofs.Stacks.{some_laid, leaf_asked, takes_two, shifts, thickens, top_reach}
 use Rattle.scene.proofs.table.Table.+ask.Goals as goal
 
-pub overflow-sub-last : goal.overflow-sub-last
-overflow-sub-last t c = some_laid _ _ c.requires.stands
+pub overflow_sub-last : goal.overflow_sub-last
+overflow_sub-last t c = some_laid _ _ c.requires.stands
 
-pub last-of-requires : goal.last-of-requires
-last-of-requires t c = record { some = some_laid _ _ c.requires.stands; laid = c.requires.laid }
+pub last_of-requires : goal.last_of-requires
+last_of-requires t c = record { some = some_laid _ _ c.requires.stands; laid = c.requires.laid }
 
 pub returns-in-Ball : goal.returns-in-Ball
 returns-in-Ball t c =
@@ -91,8 +91,8 @@ returns-in-Meet t c =
       fewer = omega arith;
     }
 
-pub moved-back-requires : goal.moved-back-requires
-moved-back-requires t c =
+pub moved_back-requires : goal.moved_back-requires
+moved_back-requires t c =
     let ns = c.args.self.now.nodes in
     let w = c.in-Shift.ensures in
     let u = shifts c.in-Shift.by (standing ns (c.args.end - 1)) (standing ns c.args.end) w.made w.fit c.args.p c.requires.near in
@@ -106,7 +106,7 @@ ask-requires t c =
     let w = c.in-Shift.ensures in
     let u = shifts c.in-Shift.by (standing ns (c.args.end - 1)) (standing ns c.args.end) w.made w.fit c.args.p c.requires.near in
     let h = some_laid ns c.args.end c.requires.stands in
-    (search rules, (omega arith, (u.stands, subst (In (top (standing ns (c.args.end - 1))).reach) (sym c.moved-back.ensures) u.below)))
+    (search rules, (omega arith, (u.stands, subst (In (top (standing ns (c.args.end - 1))).reach) (sym c.moved_back.ensures) u.below)))
 
 pub returns-in-Shift : goal.returns-in-Shift
 returns-in-Shift t c =
@@ -114,7 +114,7 @@ returns-in-Shift t c =
     let w = c.in-Shift.ensures in
     let u = shifts c.in-Shift.by (standing ns (c.args.end - 1)) (standing ns c.args.end) w.made w.fit c.args.p c.requires.near in
     record {
-      value = c.ask.ensures.value ∙ ap (top (standing ns (c.args.end - 1))).clear c.moved-back.ensures ∙ sym u.clear;
+      value = c.ask.ensures.value ∙ ap (top (standing ns (c.args.end - 1))).clear c.moved_back.ensures ∙ sym u.clear;
       before = c.ask.ensures.before ∙ sym u.before;
       fewer = omega arith;
     }
@@ -133,7 +133,7 @@ returns-in-Thicken t c =
     let w = c.in-Thicken.ensures in
     let u = thickens c.in-Thicken.by (standing ns (c.args.end - 1)) (standing ns c.args.end) w.made w.fit c.args.p c.requires.near in
     record {
-      value = c.saturating-sub.ensures ∙ ap (λ n. n - c.in-Thicken.by) c.ask-clear.ensures.value ∙ sym u.clear;
+      value = c.saturating_sub.ensures ∙ ap (λ n. n - c.in-Thicken.by) c.ask-clear.ensures.value ∙ sym u.clear;
       before = c.ask-clear.ensures.before ∙ sym u.before;
       fewer = omega arith;
     }

@@ -4,8 +4,8 @@ use Rattle.scene.specs.Standing.{step, fits}
 use Rattle.scene.proofs.Gathers.{gathered_kept, gathered_push}
 use Rattle.scene.proofs.table.Table.push.Goals as goal
 
-pub invariant-of-self : goal.invariant-of-self
-invariant-of-self c =
+pub invariant_of-self : goal.invariant_of-self
+invariant_of-self c =
     let ns = c.args.self.now.nodes in
     let n = c.args.self.now.count in
     let x = c.args.node in

@@ -2,9 +2,9 @@ use Rattle.std.proofs.Common.{rules}
 use Rattle.words.specs.Reading.{bare_at}
 use Rattle.words.proofs.reader.Reader.bare.Goals as goal
 
-pub returns-in-err-kind : goal.returns-in-err-kind
+pub returns-in_err-kind : goal.returns-in_err-kind
 unfolding bare_at
-returns-in-err-kind c = record { value = search rules; moved = search rules }
+returns-in_err-kind c = record { value = search rules; moved = search rules }
 
 pub returns-then-rest-ne0 : goal.returns-then-rest-ne0
 unfolding bare_at

@@ -3,9 +3,9 @@ use Rattle.words.specs.Reading.{number_at}
 use Rattle.words.proofs.Back.{numbers_back}
 use Rattle.words.proofs.reader.Reader.number.Goals as goal
 
-pub returns-in-err-rest : goal.returns-in-err-rest
+pub returns-in_err-rest : goal.returns-in_err-rest
 unfolding number_at
-returns-in-err-rest c = record { value = search rules; moved = search rules; back = numbers_back }
+returns-in_err-rest c = record { value = search rules; moved = search rules; back = numbers_back }
 
 pub returns-then-rest-ge-NUMBERS : goal.returns-then-rest-ge-NUMBERS
 unfolding number_at
