@@ -12,7 +12,7 @@ invariant_of-result c =
     let sx = short (k / 9) (omega arith) in
     let sy = short (k / 3 % 3) (omega arith) in
     let sz = short (k % 3) (omega arith) in
-    (omega arith, (omega arith, (omega arith, (omega (arith, moves k c.requires.1), tt))))
+    record { flat = omega arith; level = omega arith; plumb = omega arith; moves = omega (arith, moves k c.requires.1) }
 
 pub returns : goal.returns
 returns c =
