@@ -8,8 +8,8 @@ pub returns-in_err-c : goal.returns-in_err-c
 returns-in_err-c g c =
     let b = g.S.Solid.body c.args.solid.now in
     let p = c.args.p in
-    let r = c.from-residual.result in
-    let e = err_from_is_err_and r c.from-residual.ensures.1 in
+    let r = c.from_residual.result in
+    let e = err_from_is_err_and r c.from_residual.ensures.1 in
     let v = e.1 ∙ ap Err e.2 ∙ refused_alike b p c.in_err-c.field-0.0 c.in_err-c.ensures in
     record { value = v; algebra = of_pile b p r v; piles = piles_stand }
 

@@ -13,7 +13,7 @@ returns-in_err-sweep g c =
     let p = c.new-plate.result in
     let p0 = c.open.new.self in
     let e = c.in_err-sweep.field-0.0 in
-    let r : c.from-residual-in_err-sweep.result ≡ Err e = search rules in
+    let r : c.from_residual-in_err-sweep.result ≡ Err e = search rules in
     let o = opened_ends c.args.numbers (plain_view p.view) (plain_view p0.view) p.records.now p0.records.now (Ok tt) c.in_ok-open.ensures.value
     ∙ ap (λ (rs : List Pixel). opens (view_answer c.args.numbers) (length rs)) c.new-plate.ensures.value.0 in
     record {
@@ -27,7 +27,7 @@ returns-in_err-sweep-2 g c =
     let p0 = c.open.new.self in
     let p1 = c.sweep.new.self in
     let e = c.in_err-sweep-2.field-0.0 in
-    let r : c.from-residual-in_err-sweep-2.result ≡ Err e = search rules in
+    let r : c.from_residual-in_err-sweep-2.result ≡ Err e = search rules in
     let o = opened_ends c.args.numbers (plain_view p.view) (plain_view p0.view) p.records.now p0.records.now (Ok tt) c.in_ok-open.ensures.value
     ∙ ap (λ (rs : List Pixel). opens (view_answer c.args.numbers) (length rs)) c.new-plate.ensures.value.0 in
     record {

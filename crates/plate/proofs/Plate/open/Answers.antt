@@ -12,11 +12,11 @@ use Rattle.plate.proofs.Plate.open.Goals as goal
 pub returns-in_err-view : goal.returns-in_err-view
 returns-in_err-view c =
     let p = c.args.self.now in
-    let r = c.from-residual.result in
-    let e = err_from_is_err_and r c.from-residual.ensures.1 in
+    let r = c.from_residual.result in
+    let e = err_from_is_err_and r c.from_residual.ensures.1 in
     record {
       value = open_refused c.args.numbers (plain_view p.view) p.records.now c.in_err-view.field-0.0 e.0 r c.in_err-view.ensures e.1 e.2;
-      begins = MatchResult-from_err r _ _ c.from-residual.ensures.0 (λ _. refl);
+      begins = MatchResult-from_err r _ _ c.from_residual.ensures.0 (λ _. refl);
       lender = refl;
       whole = whole;
     }

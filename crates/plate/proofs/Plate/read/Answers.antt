@@ -8,8 +8,8 @@ pub returns-in_err-k : goal.returns-in_err-k
 returns-in_err-k c =
     let p = c.args.self.now in
     let rs = p.records.now in
-    let r = c.from-residual.result in
-    let e = err_from_is_err_and r c.from-residual.ensures.1 in
+    let r = c.from_residual.result in
+    let e = err_from_is_err_and r c.from_residual.ensures.1 in
     let l = read_absent p.view rs c.args.i c.args.j c.in_err-k.field-0.0 e.0 r c.in_err-k.ensures e.1 e.2 in
     record { line = l; promise = promise p.view rs rs (reading c.args.i c.args.j) _ p.room l }
 

@@ -13,8 +13,8 @@ returns-in_err-k g c =
     let p = c.args.self.now in
     let rs = p.records.now in
     let b = g.S.Solid.body c.args.solid.now in
-    let r = c.from-residual.result in
-    let e = err_from_is_err_and r c.from-residual.ensures.1 in
+    let r = c.from_residual.result in
+    let e = err_from_is_err_and r c.from_residual.ensures.1 in
     let l = touch_absent p.view rs c.args.i c.args.j b c.args.budget c.in_err-k.field-0.0 e.0 r c.in_err-k.ensures e.1 e.2 in
     record { line = l; promise = promise p.view rs rs (touching c.args.i c.args.j b c.args.budget) _ p.room l; view = refl; lender = refl }
 

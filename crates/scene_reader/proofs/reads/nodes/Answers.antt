@@ -34,7 +34,7 @@ returns-in_err-node c =
     let t = c.place.ensures in
     let l = c.loop-from.invariant.3 in
     let p : node_at bs c.args.count k x.0 x.1 ≡ Err e = search rules in
-    let r : c.from-residual.result ≡ Err e = search rules in
+    let r : c.from_residual.result ≡ Err e = search rules in
     record {
       value = rw r (sym (c.loop-from.invariant.0 ∙ stop bs c.args.count k x.0 x.1 (omega arith) l e p));
       text = search rules;

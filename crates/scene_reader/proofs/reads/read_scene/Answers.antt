@@ -13,7 +13,7 @@ returns-in_err-count c =
     let bs = ahead c.args.from.now in
     let e = c.in_err-count.field-0.0 in
     let p : count_of bs ≡ Err e = search rules in
-    let r : c.from-residual.result ≡ Err e = search rules in
+    let r : c.from_residual.result ≡ Err e = search rules in
     let z = no_count bs e p in
     record { value = simp (z, r); read = simp z (search rules); same = search rules; back = scenes_back }
 
@@ -23,7 +23,7 @@ returns-in_err-nodes c =
     let e = c.in_err-nodes.field-0.0 in
     let p : count_of bs ≡ Ok c.in_ok-count.count = search rules in
     let q : nodes_from c.in_ok-count.count bs c.in_ok-count.count 1 0 [] ≡ Err e = search rules in
-    let r : c.from-residual-in_err-nodes.result ≡ Err e = search rules in
+    let r : c.from_residual-in_err-nodes.result ≡ Err e = search rules in
     let z = no_scene bs _ e p q in
     record { value = simp (z, r); read = simp z (search rules); same = search rules; back = scenes_back }
 
@@ -38,7 +38,7 @@ returns-in_err-at c =
     let t : at n c.fill.result ≡ Err e = search rules in
     let u : scene_body c.fill.new.self ≡ scene_body c.args.scene.now = ap scene_body (left n c.fill.result e _ t c.fill.ensures.same) in
     let w : ended n s ≡ Err e = sym (ending n s _ (scene_body c.fill.new.self) c.fill.result c.fill.ensures.value) ∙ ap (λ x. held x (scene_body c.fill.new.self)) t in
-    let r : c.from-residual-in_err-at.result ≡ Err e = search rules in
+    let r : c.from_residual-in_err-at.result ≡ Err e = search rules in
     let z = no_scene bs n e p (sym q ∙ w) in
     record { value = simp (z, r, u); read = simp z (search rules); same = simp r (left n c.fill.result e _ t c.fill.ensures.same); back = scenes_back }
 

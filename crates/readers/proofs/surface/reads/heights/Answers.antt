@@ -10,7 +10,7 @@ returns-in_err-sheet c =
     let bs = c.args.from.now.bytes.now in
     let e = c.in_err-sheet.field-0.0 in
     let p : number_at bs c.loop-k.from.at ≡ Err e = search rules in
-    let r : c.from-residual.result ≡ Err e = search rules in
+    let r : c.from_residual.result ≡ Err e = search rules in
     record {
       value = rw r (sym (c.loop-k.invariant.0 ∙ ap (result_map_both (λ hs. take c.loop-k.k c.loop-k.sheet ++ hs) (λ d. d)) (stop bs _ _ _ c.loop-k-test.true e p)));
       text = search rules;
