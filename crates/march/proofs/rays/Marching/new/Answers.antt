@@ -8,4 +8,4 @@ pub invariant_of-result : goal.invariant_of-result
 invariant_of-result c =
     let v = c.in_ok-view.view in
     let p = subst⁻¹ (In 16510) c.start_of.ensures (start_in v c.args.i c.args.j (omega arith) (omega arith)) in
-    (p.0, (p.1, (p.2, (v.close, (omega arith, (omega arith, tt))))))
+    record { left = p.0; low = p.1; near = p.2; close = v.close; onto = omega arith; counted = omega arith }

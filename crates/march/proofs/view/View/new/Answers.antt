@@ -15,7 +15,7 @@ invariant_of-result c =
     let o = origin_near n c.in_ok-origin.origin c.in_ok-origin.ensures in
     let s = c.in_ok-width in
     let z = sizes_small n (s.width, s.height, s.far) s.ensures in
-    (o.0, (o.1, (o.2, (z.0, (z.1, (z.2, tt))))))
+    record { left = o.0; low = o.1; near = o.2; wide = z.0; high = z.1; close = z.2 }
 
 pub returns : goal.returns
 returns c =
