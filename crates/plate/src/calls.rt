@@ -9,9 +9,9 @@ ghost use Rattle.plate_log.specs.Law.{Promise, Whole};
 use super::{Plate, WORKING, count_marching, place_of, put_image, renew, settle, sweep_all};
 use lattice::Point;
 use lattice::direction::Direction;
-use plate_log::fault::PlateFault;
 use march::pixel::Pixel;
 use march::view::{View, ViewNumbers};
+use plate_log::fault::PlateFault;
 use solid::Solid;
 
 impl<'a> Plate<'a> {

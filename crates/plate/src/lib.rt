@@ -13,9 +13,9 @@ ghost use Rattle.plate_log.specs.Log.{area, place_answer, clear_at, along_ray, w
 
 use lattice::Point;
 use lattice::direction::Direction;
-use plate_log::fault::PlateFault;
 use march::pixel::Pixel;
 use march::view::View;
+use plate_log::fault::PlateFault;
 use solid::Solid;
 
 pub mod calls;

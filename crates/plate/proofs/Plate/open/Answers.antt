@@ -1,4 +1,4 @@
-use Rattle.std.proofs.Common.{◌≡◌, ◌*◌, ◌≤◌, List, ◌++◌, length, drop, replicate, refl, ap, ◌∙◌, arith, Bor, rules}
+use Rattle.std.proofs.Common.{◌≡◌, ◌*◌, ◌≤◌, List, ◌++◌, length, drop, replicate, refl, ap, ◌∙◌, arith, MutBor, rules}
 use Rattle.std.proofs.lemmas.Result.{err_from_is_err_and, MatchResult-from_err}
 use Rattle.march.specs.declared.pixel.Pixel.{Pixel}
 use Rattle.march.specs.Checks.{plain_view}
@@ -35,7 +35,7 @@ pub invariant_of-self : goal.invariant_of-self
 invariant_of-self c =
     let v = c.in_ok-view.view in
     let rs = c.take-records.result.now in
-    let same = ap (λ (r : Bor (List Pixel)). length r.now) c.take-records.ensures.value in (
+    let same = ap (λ (r : MutBor (List Pixel)). length r.now) c.take-records.ensures.value in (
       new_room (area v) c.renew.new.records rs (omega arith) c.renew.ensures,
       (new_sound v.far (area v) c.renew.new.records rs c.renew.ensures, tt),
     )
@@ -45,7 +45,7 @@ returns c =
     let p = c.args.self.now in
     let v = c.in_ok-view.view in
     let rs = c.take-records.result.now in
-    let same = ap (λ (r : Bor (List Pixel)). r.now) c.take-records.ensures.value in
+    let same = ap (λ (r : MutBor (List Pixel)). r.now) c.take-records.ensures.value in
     record {
       value = open_done c.args.numbers (plain_view p.view) p.records.now (plain_view v) c.renew.new.records c.in_ok-view.ensures c.if-n-self.false
           (c.renew.ensures ∙ ap (λ (rs : List Pixel). replicate (area v) fresh ++ drop (area v) rs) same);

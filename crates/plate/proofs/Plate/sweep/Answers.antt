@@ -1,4 +1,4 @@
-use Rattle.std.proofs.Common.{◌≡◌, ◌≤◌, List, ◌++◌, length, take, drop, refl, ap, ◌∙◌, arith, Bor, rules}
+use Rattle.std.proofs.Common.{◌≡◌, ◌≤◌, List, ◌++◌, length, take, drop, refl, ap, ◌∙◌, arith, MutBor, rules}
 use Rattle.std.proofs.lemmas.List.{take_at}
 use Rattle.march.specs.declared.pixel.Pixel.{Pixel}
 use Rattle.plate_log.specs.Sweep.{marching}
@@ -22,7 +22,7 @@ invariant_of-self g c =
     let p = c.args.self.now in
     let v = p.view in
     let rs = c.take-records.result.now in
-    let same = ap (λ (r : Bor (List Pixel)). length r.now) c.take-records.ensures.value in
+    let same = ap (λ (r : MutBor (List Pixel)). length r.now) c.take-records.ensures.value in
     let ps = c.sweep_all-spent.new.pixels in
     let long = long_swept v rs ps (g.S.Solid.body c.args.solid.now) c.args.budget (omega (arith, p.room)) c.sweep_all-spent.ensures.value in
     (front_room (area v) ps rs long, (front_sound v.far (area v) ps rs long c.sweep_all-spent.ensures.sound, tt))
@@ -33,7 +33,7 @@ returns g c =
     let v = p.view in
     let b = g.S.Solid.body c.args.solid.now in
     let rs = c.take-records.result.now in
-    let same = ap (λ (r : Bor (List Pixel)). r.now) c.take-records.ensures.value in
+    let same = ap (λ (r : MutBor (List Pixel)). r.now) c.take-records.ensures.value in
     let ps = c.sweep_all-spent.new.pixels in
     let qs = ps ++ drop (area v) rs in
     let room : area v ≤ length rs = omega (arith, p.room, ap length same) in

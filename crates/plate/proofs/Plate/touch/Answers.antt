@@ -1,4 +1,4 @@
-use Rattle.std.proofs.Common.{◌≡◌, ◌≤◌, true, List, length, get_or, take, set, refl, ap, ◌∙◌, arith, Bor, rules}
+use Rattle.std.proofs.Common.{◌≡◌, ◌≤◌, true, List, length, get_or, take, set, refl, ap, ◌∙◌, arith, MutBor, rules}
 use Rattle.std.proofs.lemmas.Result.{err_from_is_err_and}
 use Rattle.march.specs.declared.pixel.Pixel.{Pixel}
 use Rattle.march.specs.March.{fresh, sane}
@@ -32,7 +32,7 @@ settle-counts-requires g c =
     let p = c.args.self.now in
     let v = p.view in
     let k = c.in_ok-k.k in
-    let same = ap (λ (r : Bor (List Pixel)). r.now) c.take-records.ensures.value in
+    let same = ap (λ (r : MutBor (List Pixel)). r.now) c.take-records.ensures.value in
     let at = placed v c.args.i c.args.j k c.in_ok-k.ensures in
     record {
       there = omega (arith, at.inside, p.room, ap length same);
@@ -47,7 +47,7 @@ invariant_of-self g c =
     let v = p.view in
     let k = c.in_ok-k.k in
     let rs = c.take-records.result.now in
-    let same = ap (λ (r : Bor (List Pixel)). r.now) c.take-records.ensures.value in
+    let same = ap (λ (r : MutBor (List Pixel)). r.now) c.take-records.ensures.value in
     let at = placed v c.args.i c.args.j k c.in_ok-k.ensures in
     let qs = c.settle-counts.new.records in
     let q = get_or qs k fresh in
@@ -66,7 +66,7 @@ returns g c =
     let j = c.args.j in
     let k = c.in_ok-k.k in
     let rs = c.take-records.result.now in
-    let same = ap (λ (r : Bor (List Pixel)). r.now) c.take-records.ensures.value in
+    let same = ap (λ (r : MutBor (List Pixel)). r.now) c.take-records.ensures.value in
     let room : area v ≤ length rs = omega (arith, p.room, ap length same) in
     let qs = c.settle-counts.new.records in
     let e = c.settle-counts.ensures in

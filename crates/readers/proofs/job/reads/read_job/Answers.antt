@@ -33,4 +33,4 @@ invariant_of-result c =
     let p : pile_at bs ≡ Ok (c.in_ok-guard.guard, c.in_ok-guard.shift, c.in_ok-guard.lo, c.in_ok-guard.hi) = search rules in
     let k = pile_kept bs _ p in
     let s = k.0 in
-    (view_stands bs _ v, (omega (arith, ints, s), (k.1, (k.2, (k.3, (search rules, tt))))))
+    record { seen = view_stands bs _ v; slight = omega (arith, ints, s); near = k.1; low = k.2; high = k.3; upright = search rules }

@@ -4,7 +4,7 @@ use Rattle.scene.proofs.draft.Draft.new.Goals as goal
 
 pub invariant_of-result : goal.invariant_of-result
 unfolding gathered
-invariant_of-result c = (omega arith, (ap (λ n. map summed (standing c.new.result.nodes n)) c.new.ensures, tt))
+invariant_of-result c = record { fewer = omega arith; tally = ap (λ n. map summed (standing c.new.result.nodes n)) c.new.ensures }
 
 pub returns : goal.returns
 unfolding gathered

@@ -11,4 +11,4 @@ invariant_of-self c =
     let d = c.args.self.now in
     let l : c.args.taken ≤ d.height = omega (arith, height _ _ _ d.tally, c.requires.enough) in
     let m : d.height - c.args.taken < length d.summaries = search rules in
-    (omega (arith, c.push.ensures.counted), (ap (map summed) c.push.ensures.made ∙ tallied _ _ d.summaries d.height c.args.taken c.args.summary d.tally l m c.requires.right, tt))
+    record { fewer = omega (arith, c.push.ensures.counted); tally = ap (map summed) c.push.ensures.made ∙ tallied _ _ d.summaries d.height c.args.taken c.args.summary d.tally l m c.requires.right }

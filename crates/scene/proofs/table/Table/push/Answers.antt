@@ -9,15 +9,12 @@ invariant_of-self c =
     let ns = c.args.self.now.nodes in
     let n = c.args.self.now.count in
     let x = c.args.node in
-    let l : n < length ns = omega arith in (
-      omega arith,
-      (
-        below_more _ n
-            (λ k h. let ne : k ≢ n = omega arith in ap₂ fits (get_or-set_other ns n k x Unite ne) (gathered_kept step _ Unite ns n x k (omega arith)) ∙ c.args.self.now.sound k h)
-            (ap₂ fits (get_or-set_same ns n x Unite l) (gathered_kept step _ Unite ns n x n (omega arith)) ∙ c.requires.fit),
-        tt,
-      ),
-    )
+    let l : n < length ns = omega arith in record {
+      room = omega arith;
+      sound = below_more _ n
+          (λ k h. let ne : k ≢ n = omega arith in ap₂ fits (get_or-set_other ns n k x Unite ne) (gathered_kept step _ Unite ns n x k (omega arith)) ∙ c.args.self.now.sound k h)
+          (ap₂ fits (get_or-set_same ns n x Unite l) (gathered_kept step _ Unite ns n x n (omega arith)) ∙ c.requires.fit);
+    }
 
 pub returns : goal.returns
 returns c =
