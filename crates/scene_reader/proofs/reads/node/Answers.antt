@@ -17,15 +17,15 @@ returns-in_err-check c = record { value = search rules; counted = search rules; 
 
 pub lay-requires : goal.lay-requires
 lay-requires c =
-    let h : checked c.args.count c.place-place.result (state c.args.draft.now).0 c.of_kind.result (state c.args.draft.now).1 ≡ Ok c.in_ok-check.field-0 = search rules in
-    record { here = search rules; room = (passes c.args.count c.place-place.result (state c.args.draft.now).0 c.of_kind.result (state c.args.draft.now).1 _ h).0 }
+    let h : checked c.args.count c.place-place.result (state c.args.draft.now).0 c.of-kind.result (state c.args.draft.now).1 ≡ Ok c.in_ok-check.field-0 = search rules in
+    record { here = search rules; room = (passes c.args.count c.place-place.result (state c.args.draft.now).0 c.of-kind.result (state c.args.draft.now).1 _ h).0 }
 
 pub returns : goal.returns
 returns c =
     let bs = text c.args.from.now in
     let k = place c.args.from.now in
     let x = state c.args.draft.now in
-    let kind = c.of_kind.result in
+    let kind = c.of-kind.result in
     let p : c.place-place.result ≡ k = search rules in
     let b : bare_at bs k 3 8 ≡ Ok c.in_ok-bare.field-0 = search rules in
     let h : checked c.args.count k x.0 kind x.1 ≡ Ok c.in_ok-check.field-0 = search rules in
@@ -33,7 +33,7 @@ returns c =
     let m : IfOk c.lay.result (λ _. place c.lay.new.from ≡ k + 1 + numbers kind) = subst (λ z. IfOk c.lay.result (λ _. place c.lay.new.from ≡ z + 1 + numbers kind)) p c.lay.ensures.moved in
     let w = (passes c.args.count k x.0 kind x.1 _ h).1 in
     record {
-      value = joined c.lay.result _ _ _ _ v m ∙ sym (node_is bs c.args.count k x.0 x.1 _ kind _ b c.of_kind.ensures h);
+      value = joined c.lay.result _ _ _ _ v m ∙ sym (node_is bs c.args.count k x.0 x.1 _ kind _ b c.of-kind.ensures h);
       counted = c.lay.ensures.counted;
       text = search rules;
       within = made_on c.lay.result _ _ (λ q. omega arith) m;
