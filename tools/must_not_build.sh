@@ -5,31 +5,30 @@
 # A line says how each case went; the status is 1 if any went otherwise.
 set -eu
 root=$(cd "$(dirname "$0")/.." && pwd)
-kit=$(dirname "$(dirname "$(rt doc)")")
+kit=$(dirname "$(rt doc)")
 work=$(mktemp -d)
 trap 'rm -rf "$work"' EXIT
-
-std=()
-while IFS=: read -r name uses; do
-    std+=(--lib "$name:$(echo $uses | tr ' ' ,)=$kit/$name/src/lib.rt")
-done <"$kit/libs.txt"
 
 # libraries: the crates that the named ones stand on, and they themselves, as sources
 libraries() {
     local name
     for name; do
-        case " ${own[*]-} " in *" $name=$root/"*) continue ;; esac
-        own+=(--lib "$name=$root/crates/$name/src/lib.rt")
-        libraries $(sed -n "s/^$name://p" "$root/crates.txt")
+        case " ${own[*]-} " in *" $name:std"*) continue ;; esac
+        local below
+        below=$(sed -n "s/^$name://p" "$root/crates.txt")
+        own+=(--lib "$name:std${below:+$(printf ",%s" $below)}=$root/crates/$name/src/lib.rt")
+        libraries $below
     done
 }
 
 surprises=0
 tried=0
 
+mkdir -p "$work/trial/src"
 compile() { # reads a program from standard input, and leaves what the compiler says of it in $work/said
-    cat >"$work/main.rt"
-    "$kit/bin/rattle-print-mir" "$work/main.rt" --crate-name trial "${std[@]}" "${own[@]}" >/dev/null 2>"$work/said"
+    cat >"$work/trial/src/main.rt"
+    "$kit/bin/rattle" check "$work/trial/src/main.rt" --crate-name trial --antt-project "$kit/rattle/logic/antt-project.json" --logic-built "$kit/logic_built" \
+        --extern "std=$kit/rlibs/std.rlib" -L "dependency=$kit/rlibs" "${own[@]}" --only '' >"$work/said" 2>&1
 }
 
 surprise() { # WHAT

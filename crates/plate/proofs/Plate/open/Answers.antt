@@ -35,10 +35,7 @@ pub invariant_of-self : goal.invariant_of-self
 invariant_of-self c =
     let v = c.in_ok-view.view in
     let rs = c.take-records.result.now in
-    let same = ap (λ (r : MutBor (List Pixel)). length r.now) c.take-records.ensures.value in (
-      new_room (area v) c.renew.new.records rs (omega arith) c.renew.ensures,
-      (new_sound v.far (area v) c.renew.new.records rs c.renew.ensures, tt),
-    )
+    let same = ap (λ (r : MutBor (List Pixel)). length r.now) c.take-records.ensures.value in record { room = new_room (area v) c.renew.new.records rs (omega arith) c.renew.ensures; sound = new_sound v.far (area v) c.renew.new.records rs c.renew.ensures }
 
 pub returns : goal.returns
 returns c =

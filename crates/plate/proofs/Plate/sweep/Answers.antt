@@ -25,7 +25,7 @@ invariant_of-self g c =
     let same = ap (λ (r : MutBor (List Pixel)). length r.now) c.take-records.ensures.value in
     let ps = c.sweep_all-spent.new.pixels in
     let long = long_swept v rs ps (g.S.Solid.body c.args.solid.now) c.args.budget (omega (arith, p.room)) c.sweep_all-spent.ensures.value in
-    (front_room (area v) ps rs long, (front_sound v.far (area v) ps rs long c.sweep_all-spent.ensures.sound, tt))
+    record { room = front_room (area v) ps rs long; sound = front_sound v.far (area v) ps rs long c.sweep_all-spent.ensures.sound }
 
 pub returns : goal.returns
 returns g c =

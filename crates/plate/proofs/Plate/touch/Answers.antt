@@ -52,10 +52,7 @@ invariant_of-self g c =
     let qs = c.settle-counts.new.records in
     let q = get_or qs k fresh in
     let is : qs ≡ set rs k q = touched_set rs qs k _ (omega (arith, at.inside, p.room, ap length same)) c.settle-counts.ensures.value in
-    let sound : all_sane v.far (take (area v) rs) ≡ true = ap (λ (rs : List Pixel). all_sane v.far (take (area v) rs)) same ∙ p.sound in (
-      omega (arith, p.room, ap length same, c.settle-counts.auto.records),
-      (ap (λ (qs : List Pixel). all_sane v.far (take (area v) qs)) is ∙ sound_set v.far (area v) k rs q sound at.inside c.settle-counts.ensures.sound, tt),
-    )
+    let sound : all_sane v.far (take (area v) rs) ≡ true = ap (λ (rs : List Pixel). all_sane v.far (take (area v) rs)) same ∙ p.sound in record { room = omega (arith, p.room, ap length same, c.settle-counts.auto.records); sound = ap (λ (qs : List Pixel). all_sane v.far (take (area v) qs)) is ∙ sound_set v.far (area v) k rs q sound at.inside c.settle-counts.ensures.sound }
 
 pub returns : goal.returns
 returns g c =
