@@ -279,6 +279,11 @@ fn which_of_two_faults_comes_first(rt: HostRuntime) -> Result<(), Fail> {
         0x2000_7fff,
     ];
     assert_eq!(rt; told_of(&rt, &crossed)?, (4, 7));
+    Ok(())
+}
+
+#[test]
+fn which_of_two_faults_of_one_word_comes_first(rt: HostRuntime) -> Result<(), Fail> {
     // a start word of another kind that counts nothing, a node of no kind with a bit too many
     assert_eq!(rt; told_with(&rt, 0, 0x2000_0000)?, (2, 0));
     assert_eq!(rt; told_with(&rt, 13, 0x2000_0001)?, (2, 13));
@@ -313,7 +318,12 @@ fn at_most_256_nodes(rt: HostRuntime) -> Result<(), Fail> {
         ball_and(&rt, 0x1000_0205, &[THICKEN, ZERO], 256)?,
         (8, 516)
     );
-    // the last node's number passes the count too
+    Ok(())
+}
+
+#[test]
+fn the_257th_node_comes_before_its_numbers(rt: HostRuntime) -> Result<(), Fail> {
+    // its number passes the count too
     assert_eq!(rt;
         ball_and(&rt, 0x1000_0204, &[THICKEN, ZERO], 256)?,
         (8, 516)

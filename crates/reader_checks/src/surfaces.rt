@@ -102,6 +102,11 @@ fn sizes_come_before_the_buffer(rt: HostRuntime) -> Result<(), Fail> {
     assert_eq!(rt; start(&rt, 0x9001_0005)?, (18, 0));
     assert_eq!(rt; start(&rt, 0x9040_0040)?, (18, 0));
     assert_eq!(rt; start(&rt, 0x8002_0002)?, (2, 0));
+    Ok(())
+}
+
+#[test]
+fn the_kind_comes_before_the_sizes(rt: HostRuntime) -> Result<(), Fail> {
     assert_eq!(rt; start(&rt, 0x8041_0001)?, (2, 0));
     Ok(())
 }

@@ -3,10 +3,10 @@ use super::{made, point, refused};
 use layers::Unite;
 use leaves::axis_box::AxisBox;
 use leaves::surface::{Sheet, Surface};
-use plate_log::fault::PlateFault;
 use march::pixel::Pixel;
 use march::view::ViewNumbers;
 use plate::Plate;
+use plate_log::fault::PlateFault;
 use solid::Solid;
 
 /// The sides of the plate, and its records: one for each pixel, and one that stays as it is.
