@@ -1,5 +1,5 @@
 -- Two sweeps and a read, of which the first refused call is the end.
-use Rattle.std.proofs.Common.{◌≡◌, ℕ, ◌*◌, Bool, false, cond, ltb, List, length, Ok, Err, Result, sym, refl, ap, ◌∙◌}
+use Rattle.std.proofs.Common.{◌≡◌, ℕ, ◌*◌, Bool, cond, ltb, List, length, Ok, Err, Result, sym, refl, ap, ◌∙◌}
 use Rattle.std.proofs.lemmas.Bool.{cond-true, cond-false, cond_both}
 use Rattle.std.specs.Result.{result_and, result_map_both}
 use Rattle.solid.specs.Body.{Body}

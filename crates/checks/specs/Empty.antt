@@ -1,5 +1,5 @@
 -- A solid of another make than the kit's own: it has no members, and a reach as it is told.
-use Rattle.std.specs.Prelude.{◌≡◌, ℕ, ◌≤◌, Bool, true, false}
+use Rattle.std.specs.Prelude.{ℕ, ◌≤◌, false}
 use Rattle.std.proofs.Common.{arith}
 use Rattle.std.proofs.lemmas.Bool.{false≢true}
 use Rattle.solid.specs.Body.{Body, Lawful}

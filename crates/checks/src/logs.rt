@@ -2,10 +2,10 @@
 use crate::own_make::Empty;
 use lattice::Point;
 use leaves::axis_box::AxisBox;
-use plate_log::fault::PlateFault;
 use march::pixel::Pixel;
 use march::view::{ViewFault, ViewNumbers};
 use plate::Plate;
+use plate_log::fault::PlateFault;
 use std::test::Fail;
 
 fn at(x: i32, y: i32, z: i32) -> Point {

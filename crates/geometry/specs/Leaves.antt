@@ -1,5 +1,5 @@
 -- What each leaf means: ball, box and surface.
-use Rattle.std.specs.Prelude.{ℕ, zero, suc, ◌+◌, ◌-◌, ◌*◌, max, Bool, true, false, cond, ◌&&◌, List, [], ◌∷◌, ℤ, pos, negsuc, ◌-ℤ◌, int_le, nat_le, slice_index_or, unsigned_abs}
+use Rattle.std.specs.Prelude.{ℕ, zero, suc, ◌+◌, ◌-◌, ◌*◌, max, Bool, true, false, cond, ◌&&◌, List, ℤ, pos, negsuc, ◌-ℤ◌, int_le, nat_le, slice_index_or, unsigned_abs}
 use Rattle.std.specs.Int.{int_max}
 use Rattle.lattice.specs.Space.{gap, dist}
 use Rattle.lattice.specs.declared.Point.{Point}

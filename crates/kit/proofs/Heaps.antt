@@ -1,6 +1,5 @@
 -- The pile of a model: what it is a pile of, and how the code's solids mean it.
-use Rattle.std.proofs.Common.{◌≡◌, ℕ, zero, suc, ◌+◌, ◌*◌, ◌^◌, ◌<◌, ◌≤◌, Bool, true, false, cond, ◌&&◌, ◌||◌, eqb, leb, List, length, take, ℤ, pos, negsuc, nat_abs, is_ok, Ok, Err, Result, sym, refl, ap, ◌∙◌, subst, arith, lit≤, w32, to_z}
-use mathlib.Core.Path.{subst⁻¹}
+use Rattle.std.proofs.Common.{◌≡◌, ℕ, zero, suc, ◌*◌, ◌≤◌, Bool, true, false, ◌||◌, eqb, leb, List, length, take, ℤ, pos, negsuc, nat_abs, Ok, Result, sym, refl, ap, ◌∙◌, subst, arith, lit≤, w32, to_z}
 use Rattle.std.specs.Result.{result_map_both}
 use Rattle.std.proofs.lemmas.Int.{ints, to_z_pos}
 use Rattle.std.proofs.lemmas.Bool.Decides.{nat_tests}
@@ -9,8 +8,8 @@ use Rattle.std.proofs.lemmas.Bool.{le-leb, ne_eqb}
 use Rattle.lattice.specs.Space.{In, norm}
 use Rattle.lattice.specs.declared.Point.{Point}
 use Rattle.solid.specs.Body.{Body, Lawful}
-use Rattle.geometry.specs.Leaves.{block, surface, ordered}
-use Rattle.geometry.specs.Layers.{unite, meet, shift, thicken, capped}
+use Rattle.geometry.specs.Leaves.{block, surface}
+use Rattle.geometry.specs.Layers.{thicken}
 use Rattle.geometry.specs.Pile.{Pile}
 use Rattle.geometry.specs.Pile.Pile.{lawful, united, met, shifted, thickened, cut}
 use Rattle.geometry.proofs.Boxes.{block_lawful}
@@ -23,7 +22,7 @@ use Rattle.readers.specs.declared.job.Job.{Job}
 use Rattle.readers.specs.declared.surface.SurfaceSize.{SurfaceSize}
 use Rattle.readers.specs.Jobs.{job_numbers}
 use Rattle.plate_log.specs.Law.{Piled}
-use Rattle.kit.specs.Models.{Model, guarded, stack, pile_of, grown, members}
+use Rattle.kit.specs.Models.{guarded, stack, pile_of, grown, members}
 use Rattle.kit.specs.Steps.{model_of}
 
 in_place : (p : Point) → point_in (negsuc 16383) (pos 16383) p ≡ true → In 16384 p

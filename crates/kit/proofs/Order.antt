@@ -1,27 +1,25 @@
 -- What is read of an input does not change when bytes are added to it, but for a word that was cut short.
-use Rattle.std.proofs.Common.{◌≡◌, ℕ, zero, suc, ◌+◌, ◌-◌, ◌*◌, ◌/◌, ◌%◌, ◌<◌, ◌≤◌, Bool, true, false, cond, ◌&&◌, ◌||◌, eqb, ltb, leb, ◌⊎◌, List, [], ◌∷◌, ◌++◌, length, get_or, drop, ℤ, pos, negsuc, Ok, Err, Result, sym, refl, ap, ◌∙◌, subst, inl, inr, arith, length-append, length-drop}
+use Rattle.std.proofs.Common.{◌≡◌, ℕ, zero, suc, ◌+◌, ◌*◌, ◌<◌, ◌≤◌, Bool, true, false, cond, ◌||◌, eqb, leb, ◌⊎◌, List, [], ◌++◌, length, get_or, ℤ, pos, negsuc, Ok, Err, Result, sym, refl, ap, ◌∙◌, inl, inr, arith, length-append, length-drop}
 use mathlib.Core.Path.{subst⁻¹}
 use Rattle.std.specs.Result.{result_map_both}
 use Rattle.std.proofs.lemmas.List.{get_or_append_left, drop-append-le, drop_all}
 use Rattle.std.proofs.lemmas.Bool.{cases_lt, cond-true, cond-false, le-leb, lt-leb, eqb-false, ne_eqb}
 use Rattle.solid.specs.Body.{Body}
-use Rattle.geometry.specs.Leaves.{ordered}
 use Rattle.words.specs.declared.fault.WordFault.{WordFault}
 use Rattle.words.specs.declared.fault.WordFault.TheVariants.{Short, Kind as Odd, Unnamed, Range, Row}
 use Rattle.words.specs.Reading.{and_then, unless, word_at, kind_at, bare_at, number_at, number_in, row_at, point_at}
 use Rattle.words.specs.Told.{word_told}
 use Rattle.readers.specs.declared.job.JobFault.{JobFault}
 use Rattle.readers.specs.declared.job.JobFault.TheVariants.{Word as job_word, Corners}
-use Rattle.readers.specs.declared.surface.SurfaceSize.{SurfaceSize}
 use Rattle.readers.specs.declared.surface.SurfaceReadFault.{SurfaceReadFault}
 use Rattle.readers.specs.declared.surface.SurfaceReadFault.TheVariants.{Word as sheet_word, Size, Buffer}
-use Rattle.readers.specs.Jobs.{JobNumbers, in_job, rows_at, sizes_at, view_at, pile_at, job_of}
+use Rattle.readers.specs.Jobs.{in_job, rows_at, sizes_at, view_at, pile_at, job_of}
 use Rattle.readers.specs.Surfaces.{in_surface, size_of, heights_at, surface_of}
 use Rattle.scene_reader.specs.declared.fault.SceneFault.{SceneFault}
 use Rattle.scene_reader.specs.declared.fault.SceneFault.TheVariants.{Word as scene_word, Count, Numbers, Node}
 use Rattle.scene_reader.specs.declared.kind.Kind.{Kind}
 use Rattle.scene_reader.specs.declared.kind.Kind.TheVariants.{Ball, Block, Unite, Meet, Shift, Thicken}
-use Rattle.scene_reader.specs.Scenes.{in_scene, checked, laid, node_at, ended, nodes_from, count_of, scene_of}
+use Rattle.scene_reader.specs.Scenes.{in_scene, laid, node_at, ended, nodes_from, count_of, scene_of}
 use Rattle.kit.specs.declared.fault.InputFault.{InputFault}
 use Rattle.kit.specs.declared.fault.InputFault.TheVariants.{Job as of_job, Scene as of_scene, Surface as of_surface, Left as left, Inexact, Shallow}
 use Rattle.kit.specs.Told.{input_told}

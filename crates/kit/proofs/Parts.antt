@@ -1,10 +1,8 @@
 -- The parts of an input, read one after another.
-use Rattle.std.proofs.Common.{◌≡◌, ℕ, zero, suc, ◌+◌, ◌-◌, ◌*◌, ◌/◌, ◌%◌, ◌<◌, ◌≤◌, Bool, true, false, cond, ◌&&◌, ◌||◌, eqb, leb, List, [], ◌∷◌, ◌++◌, length, take, drop, ℤ, is_ok, Ok, Err, Result, sym, refl, ap, ◌∙◌, subst, arith, length-drop, MatchResult}
-use mathlib.Core.Path.{subst⁻¹}
+use Rattle.std.proofs.Common.{◌≡◌, ℕ, zero, suc, ◌+◌, ◌-◌, ◌*◌, ◌/◌, ◌%◌, ◌≤◌, true, false, ◌&&◌, eqb, leb, List, [], ◌∷◌, ◌++◌, length, take, drop, ℤ, Ok, Err, Result, sym, ap, ◌∙◌, subst, arith, length-drop, MatchResult}
 use Rattle.std.specs.Result.{result_map_both}
 use Rattle.std.proofs.lemmas.List.{take_at}
 use Rattle.solid.specs.Body.{Body}
-use Rattle.words.specs.declared.fault.WordFault.{WordFault}
 use Rattle.words.specs.declared.reader.Reader.{Reader}
 use Rattle.words.specs.Cursor.{text, place, ahead, Begun}
 use Rattle.words.specs.Reading.{and_then, unless, number_at}
@@ -12,7 +10,7 @@ use Rattle.readers.specs.declared.job.Job.{Job}
 use Rattle.readers.specs.declared.job.JobFault.{JobFault}
 use Rattle.readers.specs.declared.surface.SurfaceSize.{SurfaceSize}
 use Rattle.readers.specs.declared.surface.SurfaceReadFault.{SurfaceReadFault}
-use Rattle.readers.specs.Jobs.{JobNumbers, job_numbers, numbers_in, job_of}
+use Rattle.readers.specs.Jobs.{JobNumbers, job_numbers, job_of}
 use Rattle.readers.specs.Surfaces.{in_surface, size_of, heights_at, surface_of, put_into}
 use Rattle.scene_reader.specs.declared.fault.SceneFault.{SceneFault}
 use Rattle.scene_reader.specs.Scenes.{in_scene, nodes_from, count_of, scene_of, put_scene}
@@ -20,10 +18,8 @@ use Rattle.scene_reader.specs.declared.fault.SceneFault.TheVariants.{Count}
 use Rattle.words.specs.Reading.{kind_at}
 use Rattle.readers.specs.declared.surface.SurfaceReadFault.TheVariants.{Size, Buffer}
 use Rattle.readers.specs.Surfaces.{sized, side}
-use Rattle.std.proofs.lemmas.Bool.Decides.{nat_tests}
 use Rattle.std.proofs.lemmas.Bool.{and_parts, leb-true, eqb-true, cond-true, cond-false}
 use Rattle.words.proofs.Chains.{first_ok, test_held, same_ok}
-use Rattle.kit.specs.declared.fault.InputFault.{InputFault}
 use Rattle.kit.specs.declared.fault.InputFault.TheVariants.{Job as of_job, Scene as of_scene, Surface as of_surface, Left as left}
 use Rattle.kit.specs.Models.{Model, past, parts_of}
 use Rattle.kit.specs.Steps.{model_of}

@@ -1,21 +1,20 @@
 -- An input that is written is read back.
-use Rattle.std.proofs.Common.{◌≡◌, ℕ, zero, suc, ◌+◌, ◌*◌, ◌≤◌, Bool, true, ◌&&◌, eqb, leb, List, [], ◌∷◌, ◌++◌, map, length, drop, ℤ, Ok, Err, Result, sym, refl, ap, ◌∙◌, mul-le-mul, arith}
+use Rattle.std.proofs.Common.{◌≡◌, ℕ, ◌+◌, ◌*◌, ◌≤◌, true, ◌&&◌, eqb, leb, List, [], ◌∷◌, ◌++◌, length, Result, sym, refl, ap, ◌∙◌, mul-le-mul, arith}
 use Rattle.std.proofs.lemmas.List.{drop_at, length-map}
 use Rattle.std.proofs.lemmas.Bool.{and_parts, leb-true, cond-true, eq-eqb}
 use Rattle.words.specs.Reading.{and_then}
 use Rattle.words.specs.Encoding.{bytes_of, signed_word}
-use Rattle.readers.specs.declared.job.Job.{Job}
-use Rattle.readers.specs.Jobs.{job_numbers, job_of}
-use Rattle.readers.specs.JobsBack.{job_words, listed}
+use Rattle.readers.specs.Jobs.{job_numbers}
+use Rattle.readers.specs.JobsBack.{job_words}
 use Rattle.readers.specs.Surfaces.{side, surface_of}
-use Rattle.readers.specs.SurfacesBack.{surface_words, sixteen}
+use Rattle.readers.specs.SurfacesBack.{surface_words}
 use Rattle.readers.proofs.ReadBack.{jobs_back}
 use Rattle.readers.proofs.SheetBack.{surfaces_back}
-use Rattle.scene_reader.specs.ScenesBack.{Tree, body_of, size, sound, words_of, scene_words}
+use Rattle.scene_reader.specs.ScenesBack.{body_of, words_of, scene_words}
 use Rattle.scene_reader.specs.Scenes.{scene_of}
 use Rattle.scene_reader.proofs.TreesBack.{scenes_back}
 use Rattle.kit.specs.declared.fault.InputFault.{InputFault}
-use Rattle.kit.specs.Models.{Model, past, parts_of, whole, parsed}
+use Rattle.kit.specs.Models.{Model, past, whole}
 use Rattle.kit.specs.Laws.{InputsReadBack}
 use Rattle.kit.proofs.Parts.{Three, tail, from_three}
 

@@ -1,5 +1,5 @@
 -- One sweep over a body that is deep enough, on a plate that was newly opened, and the image of what stands then.
-use Rattle.std.proofs.Common.{◌≡◌, ℕ, ◌+◌, ◌*◌, ◌<◌, ◌≤◌, Bool, true, false, cond, eqb, ltb, leb, ◌⊎◌, List, [], ◌∷◌, ◌++◌, length, drop, replicate, is_ok, Ok, Err, Result, sym, refl, ap, ◌∙◌, subst, inl, inr, mul-le-mul, arith, lit≤}
+use Rattle.std.proofs.Common.{◌≡◌, ℕ, ◌+◌, ◌*◌, ◌<◌, ◌≤◌, Bool, true, eqb, ltb, leb, List, [], ◌∷◌, ◌++◌, length, drop, replicate, is_ok, Ok, Err, Result, sym, refl, ap, ◌∙◌, subst, inl, inr, mul-le-mul, arith, lit≤}
 use mathlib.Core.Path.{subst⁻¹}
 use lib.ListN.{length-replicate}
 use Rattle.std.proofs.lemmas.List.{take_at, drop_at, get_or_append_left}
@@ -16,8 +16,8 @@ use Rattle.plate_log.specs.declared.fault.PlateFault.{PlateFault}
 use Rattle.plate_log.specs.Sweep.{marching}
 use Rattle.plate_log.specs.Log.{Call, Answer, sweeping, writing, counted, wrote, line, done, written, left_in, bytes_of, log, opened, pixels, pixel_in, area, place, image, stands, deep}
 use Rattle.plate_log.specs.Opening.{Opened, opened_by, opening}
-use Rattle.plate_log.specs.Fair.{Inside, Image, Fair, Lines, word_at, state}
-use Rattle.plate_log.specs.Law.{Piled, Brought, Held, budgets}
+use Rattle.plate_log.specs.Fair.{Image, Fair, Lines, word_at, state}
+use Rattle.plate_log.specs.Law.{Piled, Brought, budgets}
 use Rattle.plate_log.proofs.Place.{place_in}
 use Rattle.plate_log.proofs.Sanity.{none_marching}
 use Rattle.plate_log.proofs.Bring.{carried}
@@ -25,8 +25,8 @@ use Rattle.plate_log.proofs.Lift.{did}
 use Rattle.plate_log.proofs.Sums.{asked, line_length}
 use Rattle.plate_log.proofs.Upshot.{held}
 use Rattle.plate_log.proofs.Calls.{small, new_front}
-use Rattle.kit.specs.Render.{plain_of, area_of, picture, shot}
-use Rattle.kit.specs.Laws.{Seen, Shows}
+use Rattle.kit.specs.Render.{plain_of, picture, shot}
+use Rattle.kit.specs.Laws.{Shows}
 use Rattle.kit.proofs.Views.{view_is, few_pixels}
 use Rattle.kit.proofs.Sweeps.{swept_picture}
 

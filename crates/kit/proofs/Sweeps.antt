@@ -1,11 +1,9 @@
 -- A sweep with budget enough over new pixels settles each as its own ray does.
-use Rattle.std.proofs.Common.{◌≡◌, ℕ, zero, suc, ◌+◌, ◌-◌, ◌*◌, ◌/◌, ◌%◌, ◌≤◌, Bool, true, List, [], ◌∷◌, replicate, sym, refl, ap, ◌∙◌, subst, suc-mul, arith}
+use Rattle.std.proofs.Common.{◌≡◌, ℕ, zero, suc, ◌+◌, ◌-◌, ◌*◌, ◌/◌, ◌%◌, ◌≤◌, true, ◌∷◌, replicate, refl, suc-mul, arith}
 use Rattle.solid.specs.Body.{Body}
-use Rattle.march.specs.declared.pixel.Pixel.{Pixel}
-use Rattle.march.specs.declared.pixel.Pixel.TheVariants.{Marching, Hit, Miss}
 use Rattle.march.specs.declared.view.View.{View}
 use Rattle.march.specs.Checks.{plain_view}
-use Rattle.march.specs.March.{fresh, sane, probes, settled}
+use Rattle.march.specs.March.{fresh, sane, settled}
 use Rattle.march.specs.Rays.{new_ray, end}
 use Rattle.march.proofs.Ray.{settled_keeps, settled_same, sane_on, sane_probes}
 use Rattle.plate_log.specs.Sweep.{swept}

@@ -1,9 +1,9 @@
 -- A view whose numbers were checked is the view of those numbers.
-use Rattle.std.proofs.Common.{◌≡◌, ℕ, ◌+◌, ◌*◌, ◌≤◌, Bool, true, false, cond, ◌&&◌, eqb, ltb, ℤ, pos, negsuc, nat_abs, is_ok, Some, None, Ok, Err, Option, Result, sym, refl, ap, ◌∙◌, subst, mul-le-mul, arith}
+use Rattle.std.proofs.Common.{◌≡◌, ℕ, ◌≤◌, Bool, true, false, cond, ◌&&◌, eqb, ltb, ℤ, pos, negsuc, nat_abs, is_ok, Some, None, Ok, Err, Result, refl, ap, ◌∙◌, subst, mul-le-mul, arith}
 use mathlib.Core.Path.{subst⁻¹}
 use lib.Signed.{le_z}
 use Rattle.std.specs.Option.{ok_or}
-use Rattle.lattice.specs.Rows.{triple, row_of}
+use Rattle.lattice.specs.Rows.{triple}
 use Rattle.lattice.specs.declared.Point.{Point}
 use Rattle.march.specs.declared.view.ViewFault.{ViewFault}
 use Rattle.march.specs.declared.view.ViewFault.TheVariants.{Range, Row}

@@ -1,5 +1,5 @@
 -- What an input says: job, scene and surface, joined; and the pile that it asks for.
-use Rattle.std.specs.Prelude.{ℕ, zero, suc, ◌+◌, ◌*◌, Bool, true, cond, ◌&&◌, ◌||◌, List, length, drop, ℤ, Ok, Err, Result, ◌==◌, nat_le}
+use Rattle.std.specs.Prelude.{ℕ, zero, suc, ◌+◌, ◌*◌, Bool, ◌&&◌, ◌||◌, List, length, drop, ℤ, Ok, Result, ◌==◌, nat_le}
 use Rattle.std.specs.Result.{result_map_both}
 use Rattle.lattice.specs.Space.{back}
 use Rattle.lattice.specs.declared.Point.{Point}

@@ -1,5 +1,5 @@
 -- A number, and a point, that goes toward another by at most k, and what that does to the two distances.
-use Rattle.std.proofs.Common.{◌≡◌, ℕ, zero, suc, ◌+◌, ◌-◌, ◌≤◌, min, max, ℤ, pos, negsuc, ◌+ℤ◌, ◌-ℤ◌, neg_ℤ, nat_abs, refl, ap, ◌∙◌, arith}
+use Rattle.std.proofs.Common.{◌≡◌, ℕ, suc, ◌-◌, min, ℤ, pos, negsuc, ◌+ℤ◌, ◌-ℤ◌, neg_ℤ, nat_abs, refl, ap, ◌∙◌, arith}
 use borrow.Author.Differences.{ints}
 use Rattle.lattice.specs.Space.{gap, dist}
 use Rattle.lattice.specs.declared.Point.{Point}

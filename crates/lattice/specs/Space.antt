@@ -1,5 +1,5 @@
 -- The lattice: points of three whole numbers, and their distance.
-use Rattle.std.specs.Prelude.{◌≡◌, ℕ, ◌≤◌, max, Bool, ◌&&◌, ℤ, ◌+ℤ◌, ◌-ℤ◌, nat_le, unsigned_abs}
+use Rattle.std.specs.Prelude.{ℕ, ◌≤◌, max, Bool, ◌&&◌, ℤ, ◌+ℤ◌, ◌-ℤ◌, nat_le, unsigned_abs}
 use Rattle.lattice.specs.declared.Point.{Point}
 
 -- how far apart two whole numbers are

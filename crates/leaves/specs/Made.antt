@@ -1,4 +1,4 @@
--- What is made of a leaf's numbers, or the first refusal that applies: `andOther` goes on where a check passes, and else stops with
+-- What is made of a leaf's numbers, or the first refusal that applies: `result_and` goes on where a check passes, and else stops with
 -- its fault.
 use Rattle.std.specs.Prelude.{ℕ, ◌+◌, ◌*◌, Bool, cond, ◌&&◌, ℤ, pos, negsuc, Ok, Err, Result, nat_le, unsigned_abs}
 use Rattle.std.specs.Result.{result_and}

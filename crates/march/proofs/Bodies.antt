@@ -1,5 +1,5 @@
 -- A lawful body along a ray, by its members and clearances at the ray's points.
-use Rattle.std.proofs.Common.{◌≡◌, ℕ, ◌-◌, ◌≤◌, Bool, true, Ok, Err, Result, sym, ap, ◌∙◌, arith}
+use Rattle.std.proofs.Common.{◌≡◌, ℕ, ◌≤◌, Bool, true, Ok, Err, Result, sym, ap, ◌∙◌, arith}
 use Rattle.std.proofs.lemmas.Bool.{cond-true, and_from, le-leb}
 use Rattle.lattice.specs.Space.{In, within}
 use Rattle.lattice.specs.declared.Point.{Point}

@@ -1,5 +1,5 @@
 -- The points of a pixel's ray.
-use Rattle.std.specs.Prelude.{ℕ, cond, ◌&&◌, ℤ, pos, ◌+ℤ◌, ◌*ℤ◌, Some, None, Option, nat_le, nat_lt}
+use Rattle.std.specs.Prelude.{ℕ, cond, ◌&&◌, pos, ◌+ℤ◌, ◌*ℤ◌, Some, None, Option, nat_le, nat_lt}
 use Rattle.lattice.specs.declared.Point.{Point}
 use Rattle.lattice.specs.declared.direction.Direction.{Direction}
 use Rattle.march.specs.declared.view.View.{View}

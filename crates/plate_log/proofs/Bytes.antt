@@ -1,5 +1,5 @@
 -- The bytes of an image, one word at a time: as they are put, and as they are read back.
-use Rattle.std.proofs.Common.{◌≡◌, ℕ, zero, suc, ◌+◌, ◌-◌, ◌*◌, ◌/◌, ◌%◌, ◌<◌, ◌≤◌, true, false, cond, eqb, List, [], ◌∷◌, ◌++◌, length, get_or, take, drop, Some, None, sym, refl, ap, ◌∙◌, append_assoc, arith, length-append}
+use Rattle.std.proofs.Common.{◌≡◌, ℕ, zero, suc, ◌+◌, ◌*◌, ◌/◌, ◌%◌, ◌<◌, ◌≤◌, true, false, eqb, List, [], ◌∷◌, ◌++◌, length, get_or, take, drop, Some, sym, refl, ap, ◌∙◌, append_assoc, arith, length-append}
 use lib.Seq.{paste}
 use Rattle.std.proofs.lemmas.List.{take_more, take_at, drop_at, drop-drop, take_all, length-take-le}
 use Rattle.std.proofs.lemmas.Bool.{cond-true, cond-false, both_ways, leb-true, eq-eqb, ne_eqb}
@@ -8,7 +8,7 @@ use Rattle.march.specs.declared.pixel.Pixel.TheVariants.{Marching, Hit, Miss}
 use Rattle.march.specs.declared.view.View.{View}
 use Rattle.march.specs.March.{fresh, sane, marches}
 use Rattle.words.specs.Words.{four, image_word, number_word}
-use Rattle.plate_log.specs.Sweep.{past, marching}
+use Rattle.plate_log.specs.Sweep.{past}
 use Rattle.plate_log.specs.Log.{word, bytes, image}
 use Rattle.plate_log.specs.Fair.{word_at, state}
 use Rattle.plate_log.proofs.Sanity.{hit_parts}

@@ -1,18 +1,17 @@
 -- What the calls on a plate's records answer and leave, as lines of a log.
-use Rattle.std.proofs.Common.{◌≡◌, ℕ, zero, suc, ◌+◌, ◌-◌, ◌*◌, ◌<◌, ◌≤◌, Bool, true, false, cond, eqb, ltb, leb, ◌⊎◌, List, [], ◌∷◌, ◌++◌, length, get_or, take, drop, set, replicate, Ok, Err, Result, sym, refl, ap, ◌∙◌, inl, inr, mul-le-mul, arith, length-append, length-drop, take-append-drop}
+use Rattle.std.proofs.Common.{◌≡◌, ℕ, zero, suc, ◌+◌, ◌-◌, ◌*◌, ◌<◌, ◌≤◌, true, false, cond, eqb, leb, List, [], ◌∷◌, ◌++◌, length, get_or, take, drop, set, replicate, Ok, Err, Result, sym, refl, ap, ◌∙◌, mul-le-mul, arith, length-append, length-drop, take-append-drop}
 use lib.ListN.{length-replicate}
-use lib.Seq.{take-set-lt, set-append_left}
-use Rattle.std.proofs.lemmas.List.{take_at, drop_at, length-take-le, get_or-take, get_or_default, get_or-set_same}
+use lib.Seq.{set-append_left}
+use Rattle.std.proofs.lemmas.List.{take_at, length-take-le, get_or-take, get_or_default, get_or-set_same}
 use Rattle.std.proofs.lemmas.Bool.{cond-true, cond-false, cond_both, le-leb, lt-leb, eq-eqb, ne_eqb}
 use Rattle.solid.specs.Body.{Body}
 use Rattle.march.specs.declared.pixel.Pixel.{Pixel}
 use Rattle.march.specs.declared.view.View.{View}
-use Rattle.march.specs.declared.view.ViewFault.{ViewFault}
 use Rattle.march.specs.March.{fresh, settled, marches}
 use Rattle.plate_log.specs.declared.fault.PlateFault.{PlateFault}
 use Rattle.plate_log.specs.declared.fault.PlateFault.TheVariants.{NoPixel, Shallow, StillMarching, NoRoom}
 use Rattle.plate_log.specs.Sweep.{past, swept, marching, all_sane}
-use Rattle.plate_log.specs.Log.{Call, Answer, sweeping, touching, reading, writing, counted, told, wrote, refused, line, done, place_answer, counts_of, state_of, left_in, written, image, along_ray, clear_at, area, place, has, deep, pixels, stands}
+use Rattle.plate_log.specs.Log.{Call, Answer, sweeping, touching, reading, writing, counted, told, wrote, refused, line, done, place_answer, counts_of, state_of, left_in, written, image, along_ray, clear_at, area, place, has, deep, pixels}
 use Rattle.plate_log.specs.Law.{Promise}
 use Rattle.plate_log.proofs.Lift.{did}
 use Rattle.plate_log.proofs.Sums.{swept_length, line_length}

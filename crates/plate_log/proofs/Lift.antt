@@ -1,9 +1,9 @@
 -- From one pixel's steps to whole logs.
-use Rattle.std.proofs.Common.{◌≡◌, ℕ, zero, suc, ◌+◌, ◌-◌, ◌*◌, ◌<◌, ◌≤◌, cond, eqb, leb, List, [], ◌∷◌, ◌++◌, length, get_or, set, sym, refl, ap, subst, arith}
+use Rattle.std.proofs.Common.{◌≡◌, ℕ, zero, suc, ◌+◌, ◌-◌, ◌*◌, ◌≤◌, cond, eqb, leb, List, [], ◌∷◌, ◌++◌, length, get_or, set, sym, refl, ap, subst, arith}
 use Rattle.std.proofs.lemmas.Bool.{cond_both, leb-true}
 use Rattle.solid.specs.Body.{Body}
 use Rattle.march.specs.declared.pixel.Pixel.{Pixel}
-use Rattle.march.specs.declared.pixel.Pixel.TheVariants.{Marching, Hit, Miss}
+use Rattle.march.specs.declared.pixel.Pixel.TheVariants.{Marching}
 use Rattle.march.specs.declared.view.View.{View}
 use Rattle.march.specs.March.{stepped, settled, marches}
 use Rattle.march.proofs.Ray.{settled_keeps}

@@ -1,5 +1,5 @@
 -- Each line of a log is fair.
-use Rattle.std.proofs.Common.{◌≡◌, ℕ, zero, suc, ◌+◌, ◌-◌, ◌*◌, ◌<◌, ◌≤◌, Bool, true, false, cond, eqb, ltb, leb, ◌⊎◌, List, [], ◌∷◌, length, get_or, set, Option, sym, refl, ap, ◌∙◌, subst, inl, inr, arith, length-set}
+use Rattle.std.proofs.Common.{◌≡◌, ℕ, ◌+◌, ◌-◌, ◌*◌, ◌<◌, Bool, true, false, cond, eqb, ltb, leb, List, [], ◌∷◌, length, get_or, set, sym, refl, ap, ◌∙◌, inl, inr, arith, length-set}
 use mathlib.Core.Path.{subst⁻¹}
 use Rattle.std.proofs.lemmas.List.{get_or-set_same, get_or-set_other}
 use Rattle.std.proofs.lemmas.Bool.{cond_both, cond-true, leb-true, leb-false, ltb-true, lt-ltb, eqb-true, eqb-false, both_ways}
@@ -10,8 +10,8 @@ use Rattle.march.specs.March.{marches, sane, settled}
 use Rattle.march.proofs.Ray.{sane_on}
 use Rattle.plate_log.specs.declared.fault.PlateFault.TheVariants.{NoPixel, Shallow, StillMarching, NoRoom}
 use Rattle.plate_log.specs.Sweep.{past, swept, marching}
-use Rattle.plate_log.specs.Log.{Call, Answer, sweeping, touching, reading, writing, counted, wrote, refused, area, place, pixel_in, line, play, along_ray, clear_at, has, deep, image}
-use Rattle.plate_log.specs.Fair.{Went, Inside, Outside, Refused, Sweeps, Touches, state, word_at, Image, Fair, Lines}
+use Rattle.plate_log.specs.Log.{Call, Answer, sweeping, touching, reading, writing, counted, wrote, area, place, pixel_in, line, play, along_ray, clear_at, has, deep, image}
+use Rattle.plate_log.specs.Fair.{Went, Inside, Outside, Sweeps, Touches, state, Image, Fair, Lines}
 use Rattle.plate_log.proofs.Lift.{log_keeps, did}
 use Rattle.plate_log.proofs.Sums.{swept_sum, swept_left, swept_length, settled_left, touched_sum, line_length}
 use Rattle.plate_log.proofs.Place.{place_in, at_pixel}

@@ -1,5 +1,5 @@
 -- The place of a pixel among its view's pixels.
-use Rattle.std.proofs.Common.{◌≡◌, ℕ, ◌+◌, ◌*◌, ◌/◌, ◌%◌, ◌<◌, sym, subst₂, mul_comm}
+use Rattle.std.proofs.Common.{ℕ, ◌/◌, ◌%◌, ◌<◌, sym, subst₂, mul_comm}
 use lib.Arith.{digits_mod, digits_div, digits_lt}
 use Rattle.march.specs.declared.view.View.{View}
 use Rattle.plate_log.specs.Log.{area, place}

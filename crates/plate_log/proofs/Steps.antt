@@ -1,10 +1,10 @@
 -- A sweep and a touch, in steps of each pixel.
-use Rattle.std.proofs.Common.{◌≡◌, ℕ, zero, suc, ◌+◌, ◌-◌, ◌<◌, ◌≤◌, Bool, true, false, cond, List, [], ◌∷◌, length, get_or, sym, refl, ap, ◌∙◌, subst, arith}
+use Rattle.std.proofs.Common.{◌≡◌, ℕ, zero, suc, ◌+◌, ◌-◌, ◌<◌, Bool, true, cond, List, [], ◌∷◌, get_or, refl, ap, ◌∙◌, subst, arith}
 use Rattle.std.proofs.lemmas.Bool.{both_ways}
 use Rattle.march.specs.declared.pixel.Pixel.{Pixel}
 use Rattle.march.specs.declared.pixel.Pixel.TheVariants.{Marching, Hit, Miss}
 use Rattle.march.specs.March.{stepped, settled, marches}
-use Rattle.plate_log.specs.Sweep.{past, swept, marching}
+use Rattle.plate_log.specs.Sweep.{past, swept}
 use Rattle.plate_log.specs.Fair.{Went, stays, steps}
 use Rattle.plate_log.proofs.Sums.{settled_left, settled_rest, swept_rest, one_if}
 use Rattle.plate_log.proofs.Sanity.{none_marching}

@@ -1,6 +1,5 @@
 -- Probes, budgets and the number of marching pixels.
 use Rattle.std.proofs.Common.{◌≡◌, ℕ, zero, suc, ◌+◌, ◌-◌, ◌*◌, ◌<◌, ◌≤◌, true, cond, ◌⊎◌, List, [], ◌∷◌, length, get_or, set, replicate, refl, ap, inl, inr, suc-mul, arith, length-set}
-use Rattle.solid.specs.Body.{Body}
 use Rattle.march.specs.declared.pixel.Pixel.{Pixel}
 use Rattle.march.specs.declared.pixel.Pixel.TheVariants.{Marching, Hit, Miss}
 use Rattle.march.specs.declared.view.View.{View}

@@ -8,16 +8,15 @@ use Rattle.lattice.specs.Space.{In}
 use Rattle.solid.specs.Body.{Body, Lawful}
 use Rattle.geometry.proofs.Piles.{pile_lawful, pile_members, piles_stand}
 use Rattle.march.specs.declared.pixel.Pixel.{Pixel}
-use Rattle.march.specs.declared.pixel.Pixel.TheVariants.{Marching}
 use Rattle.march.specs.declared.view.View.{View}
 use Rattle.march.specs.View.{start, point}
-use Rattle.march.specs.March.{fresh, marches, probes, sane, Takes, Right}
+use Rattle.march.specs.March.{fresh, marches, sane, Takes, Right}
 use Rattle.march.proofs.Space.{point_in}
 use Rattle.march.proofs.Ray.{Clears, Rides, sane_on, right_step, Lags, lags_step, lags_ends, takes_some}
 use Rattle.march.proofs.Bodies.{body_clears, body_rides}
 use Rattle.plate_log.specs.Sweep.{past, marching, spent}
 use Rattle.plate_log.specs.Log.{Call, Answer, log, line, play, opened, stands, pixel, along_ray, clear_at, place, area}
-use Rattle.plate_log.specs.Law.{Brought, Same, Piled, Shows, answered, budgets, calls_of, Rival, Shown, Held, Settles, Whole}
+use Rattle.plate_log.specs.Law.{Brought, Same, Piled, Shows, answered, budgets, calls_of, Rival, Held, Settles, Whole}
 use Rattle.plate_log.proofs.Lift.{log_keeps, play_more}
 use Rattle.plate_log.proofs.Place.{place_in, at_pixel, from_pixel}
 use Rattle.plate_log.proofs.Sanity.{new_sane}

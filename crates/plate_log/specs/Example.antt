@@ -1,13 +1,12 @@
 -- A log, worked out: two pixels over a small pile, with a call of each kind, refused and not.
-use Rattle.std.specs.Prelude.{◌≡◌, ℕ, Bool, true, false, List, [], ◌∷◌, ℤ, pos, negsuc}
+use Rattle.std.specs.Prelude.{◌≡◌, false, List, [], ◌∷◌, ℤ, pos, negsuc}
 use Rattle.std.proofs.Common.{lit≤}
 use Rattle.lattice.specs.declared.Point.{Point}
-use Rattle.lattice.specs.declared.direction.Direction.{Direction}
 use Rattle.solid.specs.Body.{Body}
 use Rattle.geometry.specs.Leaves.{block, surface}
 use Rattle.geometry.specs.Layers.{unite, meet, shift, capped}
 use Rattle.march.specs.declared.pixel.Pixel.{Pixel}
-use Rattle.march.specs.declared.pixel.Pixel.TheVariants.{Marching, Hit, Miss}
+use Rattle.march.specs.declared.pixel.Pixel.TheVariants.{Marching, Hit}
 use Rattle.march.specs.declared.view.View.{View}
 use Rattle.plate_log.specs.declared.fault.PlateFault.TheVariants.{NoPixel, Shallow, StillMarching, NoRoom}
 use Rattle.plate_log.specs.Log.{Call, Answer, Line, sweeping, touching, reading, writing, counted, told, wrote, refused, log}

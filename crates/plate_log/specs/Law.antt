@@ -1,5 +1,5 @@
 -- What every log of a plate shows, in the words of rays, members and probes.
-use Rattle.std.specs.Prelude.{◌≡◌, ℕ, ◌+◌, ◌*◌, ◌<◌, ◌≤◌, Bool, false, List, [], ◌∷◌, ◌++◌}
+use Rattle.std.specs.Prelude.{◌≡◌, ℕ, ◌+◌, ◌*◌, ◌≤◌, Bool, false, List, [], ◌∷◌, ◌++◌}
 use Rattle.lattice.specs.declared.Point.{Point}
 use Rattle.lattice.specs.Space.{In}
 use Rattle.solid.specs.Body.{Body, Lawful}
@@ -10,7 +10,7 @@ use Rattle.march.specs.declared.view.View.{View}
 use Rattle.march.specs.View.{point}
 use Rattle.march.specs.March.{marches, probes, Takes, Right}
 use Rattle.plate_log.specs.Sweep.{marching, spent}
-use Rattle.plate_log.specs.Log.{Call, Line, Answer, sweeping, touching, reading, writing, counted, told, wrote, refused, log, opened, stands, pixel, pixels, area, clear_at}
+use Rattle.plate_log.specs.Log.{Call, Line, sweeping, touching, reading, writing, counted, told, wrote, refused, log, opened, stands, pixel, pixels, area, clear_at}
 use Rattle.plate_log.specs.Fair.{Inside, Lines}
 
 -- the bodies brought to sweeps and touches that the plate accepted; one brought to a refused call is outside every premise

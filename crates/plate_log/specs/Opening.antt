@@ -1,5 +1,5 @@
 -- Opening a plate: over its records, by the numbers of a view.
-use Rattle.std.specs.Prelude.{ℕ, ◌*◌, cond, List, ◌++◌, length, drop, replicate, pos, Ok, Err, Result, nat_lt}
+use Rattle.std.specs.Prelude.{◌*◌, cond, List, ◌++◌, length, drop, replicate, pos, Ok, Err, Result, nat_lt}
 use Rattle.march.specs.declared.pixel.Pixel.{Pixel}
 use Rattle.march.specs.declared.view.ViewFault.{ViewFault}
 use Rattle.march.specs.declared.view.ViewNumbers.{ViewNumbers}

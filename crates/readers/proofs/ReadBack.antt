@@ -1,18 +1,18 @@
 -- Jobs are read back as they were written.
-use Rattle.std.proofs.Common.{◌≡◌, ℕ, ◌+◌, ◌<◌, ◌≤◌, Bool, true, false, cond, ◌&&◌, ◌||◌, eqb, ltb, leb, List, ◌++◌, length, get_or, ℤ, pos, negsuc, nat_abs, is_ok, Some, None, Ok, Err, Option, Result, sym, refl, ap, ◌∙◌, subst, arith, lit<, lit≤}
+use Rattle.std.proofs.Common.{◌≡◌, ℕ, ◌≤◌, Bool, true, false, cond, eqb, ltb, List, ◌++◌, ℤ, pos, negsuc, nat_abs, is_ok, Some, None, Ok, Err, Result, refl, ap, arith, lit<, lit≤}
 use Rattle.std.specs.Option.{ok_or}
 use Rattle.std.proofs.lemmas.Int.{ints}
 use Rattle.std.proofs.lemmas.Bool.Decides.{nat_tests}
 use Rattle.lattice.specs.Space.{In}
-use Rattle.lattice.specs.Rows.{row_of, triple}
+use Rattle.lattice.specs.Rows.{triple}
 use Rattle.lattice.specs.declared.Point.{Point}
 use Rattle.march.specs.declared.view.ViewNumbers.{ViewNumbers}
 use Rattle.march.specs.declared.view.ViewFault.{ViewFault}
 use Rattle.march.specs.declared.view.ViewFault.TheVariants.{Range, Row}
-use Rattle.march.specs.Checks.{and_then, Way, view_answer, origin_answer, ways_answer, sizes_answer, range_answer, count_answer, row_answer}
-use Rattle.words.specs.Reading.{in_range, point_in, is_row, bare_at}
-use Rattle.words.specs.Encoding.{bytes_of, signed_word}
-use Rattle.words.proofs.Back.{Ranged, bare_back, number_in_back, row_back, point_back}
+use Rattle.march.specs.Checks.{and_then, view_answer, origin_answer, ways_answer, sizes_answer, range_answer, count_answer, row_answer}
+use Rattle.words.specs.Reading.{in_range, point_in, is_row}
+use Rattle.words.specs.Encoding.{bytes_of}
+use Rattle.words.proofs.Back.{bare_back, number_in_back, row_back, point_back}
 use Rattle.readers.specs.declared.job.Job.{Job}
 use Rattle.readers.specs.Jobs.{rows_at, sizes_at, view_at, pile_at, job_of, job_numbers}
 use Rattle.readers.specs.JobsBack.{job_words, JobsReadBack}

@@ -1,9 +1,7 @@
 -- Surfaces are read back as they were written.
-use Rattle.std.proofs.Common.{◌≡◌, ℕ, zero, suc, ◌+◌, ◌*◌, ◌/◌, ◌%◌, ◌<◌, ◌≤◌, Bool, true, false, ◌&&◌, leb, List, [], ◌∷◌, ◌++◌, map, length, get_or, ℤ, pos, negsuc, Ok, Err, sym, refl, ap, ◌∙◌, subst, arith, lit<, lit≤}
+use Rattle.std.proofs.Common.{◌≡◌, ℕ, suc, ◌+◌, ◌*◌, ◌/◌, ◌%◌, ◌<◌, ◌≤◌, true, ◌&&◌, leb, List, [], ◌∷◌, ◌++◌, length, get_or, ℤ, pos, Ok, refl, subst, arith, lit<, lit≤}
 use Rattle.std.proofs.lemmas.List.{get_or-map, length-map}
 use Rattle.std.proofs.lemmas.Bool.Decides.{nat_tests}
-use Rattle.words.specs.Words.{of_kind}
-use Rattle.words.specs.Reading.{in_range, kind_at, number_at}
 use Rattle.words.specs.Encoding.{bytes_of, signed_word}
 use Rattle.words.proofs.Back.{kind_back, numbers_back}
 use Rattle.readers.specs.Surfaces.{side, size_of, heights_at, surface_of}

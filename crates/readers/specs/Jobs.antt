@@ -1,5 +1,5 @@
 -- What a job's words say: a start word, and nineteen numbers, each at its place.
-use Rattle.std.specs.Prelude.{ℕ, ◌+◌, List, ℤ, pos, Ok, Err, Result, unsigned_abs}
+use Rattle.std.specs.Prelude.{ℕ, ◌+◌, List, ℤ, pos, Ok, Result, unsigned_abs}
 use Rattle.std.specs.Result.{result_map_both}
 use Rattle.lattice.specs.declared.Point.{Point}
 use Rattle.march.specs.declared.view.ViewNumbers.{ViewNumbers}

@@ -1,5 +1,5 @@
 -- What a surface's words say: a start word with width and depth, and then one height a column, x fastest.
-use Rattle.std.specs.Prelude.{ℕ, zero, suc, ◌+◌, ◌*◌, ◌/◌, ◌%◌, Bool, cond, ◌&&◌, List, [], ◌∷◌, ◌++◌, drop, ℤ, Ok, Err, Result, nat_le}
+use Rattle.std.specs.Prelude.{ℕ, zero, suc, ◌+◌, ◌*◌, ◌/◌, ◌%◌, Bool, ◌&&◌, List, [], ◌∷◌, ◌++◌, drop, ℤ, Ok, Err, Result, nat_le}
 use Rattle.std.specs.Result.{result_map_both}
 use Rattle.words.specs.declared.fault.WordFault.{WordFault}
 use Rattle.words.specs.Reading.{and_then, unless, kind_at, number_at}

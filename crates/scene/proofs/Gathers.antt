@@ -1,5 +1,5 @@
 -- What comes of the first entries of a table.
-use Rattle.std.proofs.Common.{◌≡◌, ℕ, zero, suc, ◌+◌, ◌-◌, ◌<◌, ◌≤◌, ◌≢◌, List, [], ◌∷◌, length, get_or, set, refl, ap, ◌∙◌, ap₂, add-one, arith, get_or-set_other, get_or-set_same}
+use Rattle.std.proofs.Common.{◌≡◌, ℕ, zero, suc, ◌+◌, ◌-◌, ◌<◌, ◌≤◌, ◌≢◌, List, length, get_or, set, refl, ap, ap₂, add-one, arith, get_or-set_other, get_or-set_same}
 use Rattle.scene.specs.Standing.{gathered}
 
 module _ {A B : Type 0} (f : A → B → B) (z : B) (d : A) where

@@ -1,9 +1,9 @@
 -- The end of a scene.
-use Rattle.std.proofs.Common.{◌≡◌, ℕ, List, [], ◌∷◌, IfErr, Ok, Err, Result, sym, refl, ap, ◌∙◌, subst, arith}
+use Rattle.std.proofs.Common.{◌≡◌, ℕ, List, [], ◌∷◌, IfErr, Ok, Err, Result, sym, refl, subst, arith}
 use Rattle.solid.specs.Body.{Body}
 use Rattle.scene.specs.declared.draft.DraftFault.{DraftFault}
 use Rattle.scene.specs.Scenes.{filled}
-use Rattle.words.specs.Reading.{held, and_then}
+use Rattle.words.specs.Reading.{held}
 use Rattle.scene_reader.specs.declared.fault.SceneFault.{SceneFault}
 use Rattle.scene_reader.specs.Scenes.{at, ended, nodes_from, count_of, scene_of}
 

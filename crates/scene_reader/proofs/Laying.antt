@@ -1,11 +1,10 @@
 -- A node that finds room is laid down on what stands.
-use Rattle.std.proofs.Common.{◌≡◌, ℕ, ◌+◌, ◌<◌, ◌≤◌, Bool, true, false, cond, ltb, leb, List, IfOk, Ok, Err, Result, sym, refl, ap, ◌∙◌, subst, arith}
-use Rattle.std.specs.Result.{result_and}
+use Rattle.std.proofs.Common.{◌≡◌, ℕ, ◌+◌, ◌<◌, ◌≤◌, true, ltb, leb, List, IfOk, Ok, Err, Result, sym, refl, ap, ◌∙◌, subst, arith}
 use Rattle.std.proofs.lemmas.Bool.Decides.{nat_tests}
 use Rattle.solid.specs.Body.{Body}
 use Rattle.scene.specs.declared.draft.DraftFault.{DraftFault}
 use Rattle.scene.specs.Laid.{Laid}
-use Rattle.scene.specs.States.{State, outcome, room, lay}
+use Rattle.scene.specs.States.{State, outcome, lay}
 use Rattle.scene.specs.declared.draft.DraftFault.TheVariants.{Full}
 use Rattle.words.specs.Reading.{held, and_then, bare_at}
 use Rattle.words.proofs.Chains.{test_held}

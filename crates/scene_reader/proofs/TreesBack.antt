@@ -1,5 +1,5 @@
 -- Trees are read back as they were written.
-use Rattle.std.proofs.Common.{◌≡◌, ℕ, zero, suc, ◌+◌, ◌-◌, ◌*◌, ◌<◌, ◌≤◌, Bool, true, false, cond, ◌&&◌, ltb, leb, List, [], ◌∷◌, ◌++◌, length, get_or, ℤ, pos, negsuc, nat_abs, Ok, Err, sym, refl, ap, ◌∙◌, subst, arith, lit<, lit≤}
+use Rattle.std.proofs.Common.{◌≡◌, ℕ, suc, ◌+◌, ◌-◌, ◌*◌, ◌<◌, ◌≤◌, Bool, true, false, ◌&&◌, ltb, leb, List, [], ◌∷◌, ◌++◌, length, get_or, ℤ, pos, negsuc, nat_abs, Ok, refl, ◌∙◌, arith, lit<, lit≤}
 use Rattle.std.proofs.lemmas.List.{get_or_append_left, get_or-append-add, length-append}
 use Rattle.std.proofs.lemmas.Int.{ints}
 use Rattle.std.proofs.lemmas.Bool.Decides.{nat_tests}
@@ -9,14 +9,13 @@ use Rattle.solid.specs.Body.{Body}
 use Rattle.geometry.specs.Leaves.{ordered}
 use Rattle.geometry.specs.Layers.{unite, meet, shift, thicken}
 use Rattle.words.specs.Words.{of_kind}
-use Rattle.words.specs.Reading.{in_range, point_in, bare_at, number_in, point_at}
+use Rattle.words.specs.Reading.{in_range, point_in}
 use Rattle.words.specs.Encoding.{bytes_of, signed_word}
 use Rattle.words.proofs.Back.{bare_back, kind_back, number_in_back, point_back}
-use Rattle.scene.specs.Standing.{last_exact}
 use Rattle.scene_reader.specs.declared.kind.Kind as kinds
 use Rattle.scene_reader.specs.declared.kind.Kind.TheVariants as kind
 use Rattle.scene_reader.specs.Kinds.{kind_of, numbers, takes}
-use Rattle.scene_reader.specs.Scenes.{sure, checked, laid, node_at, ended, nodes_from, count_of, scene_of}
+use Rattle.scene_reader.specs.Scenes.{sure, checked, laid, ended, nodes_from, count_of}
 use Rattle.scene_reader.specs.ScenesBack.{Tree, Ball, Box, Unite, Meet, Shift, Thicken, body_of, size, sound, words_of, point_words, scene_words, ScenesReadBack}
 use Rattle.scene_reader.proofs.Laying.{node_is}
 use Rattle.scene_reader.proofs.Made.{ball_laid, box_laid, shift_laid, thicken_laid}

@@ -8,7 +8,7 @@ use Rattle.scene.specs.States.{state}
 use Rattle.scene_reader.specs.declared.fault.SceneFault.{SceneFault}
 use Rattle.scene_reader.specs.declared.kind.Kind.{Kind}
 use Rattle.scene_reader.specs.Kinds.{numbers}
-use Rattle.scene_reader.specs.Scenes.{laid, node_at}
+use Rattle.scene_reader.specs.Scenes.{laid}
 
 -- the node of a kind whose word stands at place k
 pub record Down (kind : Kind) (k : ℕ) (r : Result Unit SceneFault) (from after : Reader) (old new : Draft) : Type 0 where

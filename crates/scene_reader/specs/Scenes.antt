@@ -1,8 +1,7 @@
 -- What a scene's words say: a start word that counts those after it, and then the nodes, each a word with its numbers. What stands
 -- is a list of bodies, the last first; a node takes as many of them as it wants, and what it makes stands in their place.
-use Rattle.std.specs.Prelude.{ℕ, zero, suc, ◌+◌, Bool, true, cond, ◌&&◌, List, [], ◌∷◌, length, ℤ, pos, Ok, Err, Result, nat_le, nat_lt}
+use Rattle.std.specs.Prelude.{ℕ, zero, suc, ◌+◌, Bool, true, cond, ◌&&◌, List, [], ◌∷◌, length, pos, Ok, Err, Result, nat_le, nat_lt}
 use Rattle.std.specs.Result.{result_map_both}
-use Rattle.lattice.specs.declared.Point.{Point}
 use Rattle.solid.specs.Body.{Body}
 use Rattle.geometry.specs.Layers.{unite, meet}
 use Rattle.words.specs.declared.fault.WordFault.{WordFault}

@@ -1,5 +1,5 @@
 -- What is read of a word, from the bytes of a part and the word's place in it: a value, or why the word is refused.
-use Rattle.std.specs.Prelude.{ℕ, ◌+◌, ◌*◌, ◌/◌, ◌%◌, Bool, true, false, cond, ◌&&◌, ◌||◌, List, length, ℤ, pos, negsuc, Ok, Err, Result, ◌==◌, int_le, nat_le, nat_lt, slice_index}
+use Rattle.std.specs.Prelude.{ℕ, ◌+◌, ◌*◌, ◌/◌, ◌%◌, Bool, cond, ◌&&◌, ◌||◌, List, length, ℤ, pos, negsuc, Ok, Err, Result, ◌==◌, int_le, nat_le, nat_lt, slice_index}
 use Rattle.lattice.specs.declared.Point.{Point}
 use Rattle.words.specs.declared.fault.WordFault.{WordFault}
 use Rattle.words.specs.declared.fault.WordFault.TheVariants.{Short, Kind, Unnamed, Range, Row}

@@ -1,5 +1,5 @@
 -- The words of a file: 32 bits, the least significant byte first. Bits 31..28 are the word's kind; a bit that no rule names is zero.
-use Rattle.std.specs.Prelude.{ℕ, ◌+◌, ◌*◌, ◌/◌, ◌%◌, cond, List, [], ◌∷◌, ◌++◌, ℤ, pos, ◌-ℤ◌, nat_lt}
+use Rattle.std.specs.Prelude.{ℕ, ◌+◌, ◌*◌, ◌/◌, ◌%◌, cond, List, [], ◌∷◌, ℤ, pos, ◌-ℤ◌, nat_lt}
 
 -- a word as bytes
 abbrev pub four : ℕ → List ℕ

@@ -1,4 +1,4 @@
-use Rattle.std.proofs.Common.{arith, rules}
+use Rattle.std.proofs.Common.{arith}
 use Rattle.kit.specs.Models.{parsed}
 use Rattle.kit.specs.Laws.{Files}
 use Rattle.kit.proofs.Wholes.{short_inputs, answered, most_bytes, refused_so, refusal_written, nothing_shown}

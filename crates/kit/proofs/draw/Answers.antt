@@ -1,4 +1,4 @@
-use Rattle.std.proofs.Common.{◌≡◌, ◌*◌, sym, ◌∙◌, arith, length-take, rules}
+use Rattle.std.proofs.Common.{◌*◌, sym, ◌∙◌, arith, length-take}
 use Rattle.readers.specs.Jobs.{job_numbers}
 use Rattle.scene.specs.Scenes.{scene_body}
 use Rattle.kit.specs.Steps.{model_of}

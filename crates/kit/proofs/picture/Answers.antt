@@ -1,6 +1,5 @@
-use Rattle.std.proofs.Common.{◌≡◌, ℕ, ◌≤◌, true, List, ◌++◌, length, drop, replicate, is_ok, Result, sym, refl, ap, ◌∙◌, subst, arith, lit≤, rules}
+use Rattle.std.proofs.Common.{◌≡◌, ℕ, ◌≤◌, List, ◌++◌, length, drop, replicate, is_ok, ap, ◌∙◌, subst, lit≤, rules}
 use mathlib.Core.Path.{subst⁻¹}
-use Rattle.plate_log.specs.declared.fault.PlateFault.{PlateFault}
 use Rattle.march.specs.declared.pixel.Pixel.{Pixel}
 use Rattle.march.specs.declared.view.View.{View}
 use Rattle.march.specs.March.{fresh}

@@ -1,4 +1,4 @@
-use Rattle.std.proofs.Common.{◌≡◌, ℕ, ◌<◌, ◌≤◌, Bool, true, false, cond, leb, List, is_ok, Ok, Err, sym, refl, ap, ◌∙◌, arith, rules}
+use Rattle.std.proofs.Common.{◌≡◌, ℕ, ◌<◌, ◌≤◌, leb, List, is_ok, Ok, Err, sym, ap, ◌∙◌, arith}
 use mathlib.Core.Path.{subst⁻¹}
 use Rattle.std.proofs.lemmas.Bool.{cond-true, cond-false, le-leb, lt-leb}
 use Rattle.solid.specs.Body.{Body}
@@ -7,9 +7,8 @@ use Rattle.march.specs.declared.view.ViewNumbers.{ViewNumbers}
 use Rattle.plate_log.specs.Law.{Piled}
 use Rattle.kit.specs.declared.fault.InputFault.{InputFault}
 use Rattle.kit.specs.declared.fault.InputFault.TheVariants.{Shallow}
-use Rattle.kit.specs.Models.{stack}
 use Rattle.kit.specs.Render.{Left, plain_of, shot}
-use Rattle.kit.specs.Steps.{taken, over}
+use Rattle.kit.specs.Steps.{over}
 use Rattle.kit.proofs.Stacks.{ok_mapped, box_stands, shift_stands, corners, under, unwrapped, stacked}
 use Rattle.kit.proofs.pile_up.Goals as goal
 

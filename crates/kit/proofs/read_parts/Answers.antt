@@ -1,5 +1,4 @@
-use Rattle.std.proofs.Common.{◌≡◌, Ok, Err, Result, sym, ap, ◌∙◌, rules}
-use Rattle.words.specs.Cursor.{ahead}
+use Rattle.std.proofs.Common.{◌≡◌, Err, sym, ap, ◌∙◌, rules}
 use Rattle.readers.specs.Jobs.{job_of}
 use Rattle.scene.specs.Scenes.{scene_body}
 use Rattle.kit.specs.declared.fault.InputFault.TheVariants.{Job, Scene, Surface}

@@ -1,4 +1,4 @@
-use Rattle.std.proofs.Common.{◌≡◌, ℕ, ◌+◌, ◌-◌, ◌/◌, ◌<◌, ◌≤◌, max, true, false, sym, ap, ◌∙◌, arith}
+use Rattle.std.proofs.Common.{◌≡◌, ℕ, ◌+◌, ◌-◌, ◌/◌, ◌<◌, max, true, false, sym, ap, ◌∙◌, arith}
 use Rattle.geometry.specs.Leaves.{fits, least}
 use Rattle.geometry.proofs.Least.{least_is, fails_below}
 use Rattle.geometry.proofs.Balls.{fits_last, fits_more, fits_far, fits_half}

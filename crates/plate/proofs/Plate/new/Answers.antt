@@ -1,4 +1,4 @@
-use Rattle.std.proofs.Common.{refl, rules}
+use Rattle.std.proofs.Common.{refl}
 use Rattle.plate_log.proofs.Worked.{worked}
 use Rattle.plate.proofs.Plate.new.Goals as goal
 

@@ -1,4 +1,4 @@
-use Rattle.std.proofs.Common.{◌≡◌, ◌*◌, ◌≤◌, List, ◌++◌, length, drop, replicate, refl, ap, ◌∙◌, arith, MutBor, rules}
+use Rattle.std.proofs.Common.{List, ◌++◌, length, drop, replicate, refl, ap, ◌∙◌, arith, MutBor, rules}
 use Rattle.std.proofs.lemmas.Result.{err_from_is_err_and, MatchResult-from_err}
 use Rattle.march.specs.declared.pixel.Pixel.{Pixel}
 use Rattle.march.specs.Checks.{plain_view}

@@ -1,4 +1,4 @@
-use Rattle.std.proofs.Common.{◌≡◌, ◌≤◌, List, ◌++◌, length, take, drop, refl, ap, ◌∙◌, arith, MutBor, rules}
+use Rattle.std.proofs.Common.{◌≤◌, List, ◌++◌, length, drop, refl, ap, ◌∙◌, arith, MutBor, rules}
 use Rattle.std.proofs.lemmas.List.{take_at}
 use Rattle.march.specs.declared.pixel.Pixel.{Pixel}
 use Rattle.plate_log.specs.Sweep.{marching}

@@ -1,4 +1,4 @@
-use Rattle.std.proofs.Common.{◌≡◌, true, is_ok, Ok, Err, Result, sym, refl, ap, ◌∙◌}
+use Rattle.std.proofs.Common.{◌≡◌, is_ok, Ok, Err, Result, sym, refl, ap, ◌∙◌}
 use Rattle.std.specs.Result.{result_map_both}
 use Rattle.leaves.specs.Made.{ranged, point_ranged}
 use Rattle.scene.proofs.Scene.new.Goals as goal

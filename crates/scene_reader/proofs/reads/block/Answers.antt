@@ -1,4 +1,4 @@
-use Rattle.std.proofs.Common.{◌≡◌, ◌+◌, pos, negsuc, Ok, rules}
+use Rattle.std.proofs.Common.{◌≡◌, ◌+◌, Ok, rules}
 use Rattle.words.specs.Cursor.{text}
 use Rattle.words.specs.Reading.{place_at}
 use Rattle.scene.specs.Laid.{box_on}

@@ -1,9 +1,9 @@
 use Rattle.std.proofs.Common.{◌≡◌, [], Ok, Err, sym, ap, ◌∙◌, rules}
 use Rattle.words.specs.Cursor.{ahead}
-use Rattle.words.specs.Reading.{held, and_then}
+use Rattle.words.specs.Reading.{held}
 use Rattle.scene.specs.Scenes.{scene_body}
 use Rattle.scene.specs.States.{state}
-use Rattle.scene_reader.specs.Scenes.{at, ended, nodes_from, count_of, scene_of}
+use Rattle.scene_reader.specs.Scenes.{at, ended, nodes_from, count_of}
 use Rattle.scene_reader.proofs.Ending.{ending, no_count, no_scene, a_scene, left}
 use Rattle.scene_reader.proofs.TreesBack.{scenes_back}
 use Rattle.scene_reader.proofs.reads.read_scene.Goals as goal

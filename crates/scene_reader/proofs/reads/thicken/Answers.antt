@@ -1,4 +1,4 @@
-use Rattle.std.proofs.Common.{◌≡◌, ◌+◌, pos, negsuc, Ok, rules}
+use Rattle.std.proofs.Common.{◌≡◌, ◌+◌, pos, Ok, rules}
 use Rattle.words.specs.Cursor.{text}
 use Rattle.words.specs.Reading.{number_in}
 use Rattle.scene.specs.Laid.{thicken_on}

@@ -1,4 +1,4 @@
-use Rattle.std.proofs.Common.{◌≡◌, ◌<◌, pos, nat_abs, arith, w32, to_z, of_z}
+use Rattle.std.proofs.Common.{◌≡◌, pos, nat_abs, arith, w32, to_z, of_z}
 use borrow.Author.Differences.{ints}
 use Rattle.lattice.proofs.direction.Direction.of_row.Goals as goal
 use Rattle.lattice.proofs.Ways.{rule, row_is}

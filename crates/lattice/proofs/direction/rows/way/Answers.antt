@@ -1,4 +1,4 @@
-use Rattle.std.proofs.Common.{◌≡◌, ◌+◌, ◌/◌, ◌%◌, ◌<◌, ◌≤◌, nat_abs, ap, arith, w32, to_z, of_z}
+use Rattle.std.proofs.Common.{◌/◌, ◌%◌, nat_abs, ap, arith}
 use Rattle.lattice.proofs.Ways.{short, moves, x_is, y_is, z_is}
 use Rattle.lattice.proofs.direction.rows.way.Goals as goal
 

@@ -1,4 +1,4 @@
-use Rattle.std.proofs.Common.{◌≡◌, ◌≤◌, true, sym, arith}
+use Rattle.std.proofs.Common.{◌≡◌, sym, arith}
 use borrow.Author.Differences.{ints}
 use Rattle.lattice.specs.Space.{gap, In}
 use Rattle.solid.proofs.Asked.{within_in}

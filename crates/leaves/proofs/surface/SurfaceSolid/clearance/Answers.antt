@@ -1,5 +1,4 @@
 use Rattle.std.proofs.Common.{◌≡◌, pos, sym, arith, rules}
-use borrow.Author.Differences.{ints}
 use Rattle.std.proofs.lemmas.Int.{to_z-of_z}
 use Rattle.geometry.specs.Leaves.{above, beside, last}
 use Rattle.geometry.proofs.Surfaces.{asked_off}

@@ -1,5 +1,5 @@
-use Rattle.std.proofs.Common.{◌≡◌, ◌≤◌, ◌∙◌, arith}
-use Rattle.march.specs.Rays.{plain_ray, state, end}
+use Rattle.std.proofs.Common.{◌≤◌, ◌∙◌, arith}
+use Rattle.march.specs.Rays.{plain_ray, state}
 use Rattle.march.proofs.Ends.{step_on, step_done, settled_so, contact}
 use Rattle.march.proofs.rays.Marching.settle.Goals as goal
 

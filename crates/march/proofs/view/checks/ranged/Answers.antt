@@ -1,5 +1,5 @@
-use Rattle.std.proofs.Common.{◌≡◌, arith}
-use Rattle.std.proofs.lemmas.Int.{ints, to_z-of_z}
+use Rattle.std.proofs.Common.{arith}
+use Rattle.std.proofs.lemmas.Int.{ints}
 use Rattle.march.specs.Checks.{range_answer}
 use Rattle.march.proofs.view.checks.ranged.Goals as goal
 use Rattle.march.proofs.view.checks.ranged.Goals.{then-n-least-via-then-n-least, then-n-least-via-else-n-least+then-n-most}

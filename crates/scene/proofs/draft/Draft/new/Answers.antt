@@ -1,4 +1,4 @@
-use Rattle.std.proofs.Common.{map, refl, ap, ◌∙◌, arith}
+use Rattle.std.proofs.Common.{map, ap, arith}
 use Rattle.scene.specs.Standing.{gathered, standing, summed}
 use Rattle.scene.proofs.draft.Draft.new.Goals as goal
 

@@ -1,4 +1,4 @@
-use Rattle.std.proofs.Common.{◌≡◌, ◌<◌, ◌≢◌, length, sym, refl, ap, ◌∙◌, ap₂, arith, get_or-set_other, get_or-set_same, below_more}
+use Rattle.std.proofs.Common.{◌<◌, ◌≢◌, length, refl, ◌∙◌, ap₂, arith, get_or-set_other, get_or-set_same, below_more}
 use Rattle.scene.specs.declared.node.Node.TheVariants.{Unite}
 use Rattle.scene.specs.Standing.{step, fits}
 use Rattle.scene.proofs.Gathers.{gathered_kept, gathered_push}
