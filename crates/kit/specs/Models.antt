@@ -26,7 +26,7 @@ guarded zero s = s
 guarded (suc g) s = thicken (suc g) s
 
 -- cap 64 over meet of the clip box with unite of the shifted surface and the scene
-abbrev pub stack : (lo hi shift_by_lem : Point) → (sheet scene : Body) → Body
+abbrev pub stack : (lo hi by : Point) → (sheet scene : Body) → Body
 stack lo hi v sheet scene = capped 64 (meet (block lo hi) (unite (shift v sheet) scene))
 
 abbrev pub pile_of : Model → Body

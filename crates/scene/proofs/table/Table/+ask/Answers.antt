@@ -57,8 +57,10 @@ returns-in-Unite t c =
     let w = c.in-Unite.ensures in
     let u = takes_two unite (λ a b. refl) (standing ns (c.args.end - 1)) (standing ns c.args.end) w.made w.fit c.args.p c.requires.near in
     let e = c.ask-right.ensures.before in
+    let clear : min c.ask-left.result.0 c.ask-right.result.0 ≡ (top (standing ns c.args.end)).clear c.args.p
+    = ap₂ min (c.ask-left.ensures.value ∙ ap (λ m. (top m).clear c.args.p) e) c.ask-right.ensures.value ∙ sym u.clear in
     record {
-      value = c.min.ensures ∙ ap₂ min (c.ask-left.ensures.value ∙ ap (λ m. (top m).clear c.args.p) e) c.ask-right.ensures.value ∙ sym u.clear;
+      value = omega (arith, clear);
       before = c.ask-left.ensures.before ∙ ap rest e ∙ sym u.before;
       fewer = omega arith;
     }
@@ -85,8 +87,10 @@ returns-in-Meet t c =
     let w = c.in-Meet.ensures in
     let u = takes_two meet (λ a b. refl) (standing ns (c.args.end - 1)) (standing ns c.args.end) w.made w.fit c.args.p c.requires.near in
     let e = c.ask-right-in-Meet.ensures.before in
+    let clear : max c.ask-left-in-Meet.result.0 c.ask-right-in-Meet.result.0 ≡ (top (standing ns c.args.end)).clear c.args.p
+    = ap₂ max (c.ask-left-in-Meet.ensures.value ∙ ap (λ m. (top m).clear c.args.p) e) c.ask-right-in-Meet.ensures.value ∙ sym u.clear in
     record {
-      value = c.max.ensures ∙ ap₂ max (c.ask-left-in-Meet.ensures.value ∙ ap (λ m. (top m).clear c.args.p) e) c.ask-right-in-Meet.ensures.value ∙ sym u.clear;
+      value = omega (arith, clear);
       before = c.ask-left-in-Meet.ensures.before ∙ ap rest e ∙ sym u.before;
       fewer = omega arith;
     }
