@@ -3,6 +3,7 @@ use crate::files::{cut, file_of, number, with};
 use readers::job::JobFault;
 use readers::job::reads::read_job;
 use refusal::Refusal;
+use std::process::Abort;
 use std::test::*;
 use words::reader::Reader;
 
@@ -40,7 +41,7 @@ fn told(bytes: &[u8]) -> (u32, u32) {
 }
 
 /// That for one word in place of its own.
-fn told_with(rt: &HostRuntime, place: u32, word: u32) -> Result<(u32, u32), Fail> {
+fn told_with(rt: &impl AllocGlobal, place: u32, word: u32) -> Result<(u32, u32), Fail> {
     let file = with(rt.alloc(), &JOB, place, word)?;
     Ok(told(&file))
 }
@@ -86,12 +87,9 @@ fn every_unnamed_bit_of_a_job(rt: HostRuntime) -> Result<(), Fail> {
 }
 
 /// A number of the job in place of its own is refused by this number, at its place.
-fn refused(rt: &HostRuntime, place: u32, n: i16, by: u32) -> Result<(), Fail> {
-    if told_with(rt, place, number(n))? == (by, place) {
-        Ok(())
-    } else {
-        Err(Fail::new("a number of a job is not refused as it is to be"))
-    }
+fn refused(rt: &(impl Abort + AllocGlobal), place: u32, n: i16, by: u32) -> Result<(), Fail> {
+    assert_eq!(rt; told_with(rt, place, number(n))?, (by, place));
+    Ok(())
 }
 
 #[test]
