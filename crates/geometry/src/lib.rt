@@ -6,11 +6,19 @@ ghost use Rattle.std.specs.Prelude.{◌≡◌, ℕ, Bool, true, Ok, Err};
 ghost use Rattle.lattice.specs.Space.{within};
 ghost use Rattle.lattice.specs.declared.Point.{Point as Place};
 ghost use Rattle.solid.specs.Answer.{membership};
+ghost use Rattle.geometry.specs.Leaves.{ordered};
 ghost use Rattle.geometry.specs.Pile.{Pile};
 ghost use Rattle.geometry.specs.Stands.{PilesStand};
 
 use lattice::Point;
 use solid::{QuestionFault, Solid};
+
+/// Is `lo` above `hi` on no axis?
+pub fn ordered(lo: Point, hi: Point) -> bool
+    ensures { result ≡ ordered lo hi }
+{
+    lo.x <= hi.x && lo.y <= hi.y && lo.z <= hi.z
+}
 
 /// Is the point a member? Refused as the clearance is. Of a pile the answer is that of set algebra,
 /// and every pile is lawful.

@@ -1,5 +1,6 @@
 -- The lattice: points of three whole numbers, and their distance.
-use Rattle.std.specs.Prelude.{ℕ, ◌≤◌, max, Bool, ◌&&◌, ℤ, ◌+ℤ◌, ◌-ℤ◌, nat_le, unsigned_abs}
+use Rattle.std.specs.Prelude.{ℕ, ◌≤◌, max, Bool, ◌&&◌, ℤ, ◌+ℤ◌, ◌-ℤ◌, nat_le, unsigned_abs, FitsSigned}
+use Rattle.std.specs.Int.{w32}
 use Rattle.lattice.specs.declared.Point.{Point}
 
 -- how far apart two whole numbers are
@@ -27,3 +28,7 @@ ahead v p = record { x = p.x +ℤ v.x; y = p.y +ℤ v.y; z = p.z +ℤ v.z }
 
 abbrev pub back : Point → Point → Point
 back v p = record { x = p.x -ℤ v.x; y = p.y -ℤ v.y; z = p.z -ℤ v.z }
+
+-- is each part one that 32 bits hold?
+abbrev pub Held : Point → Type 0
+Held p = FitsSigned w32 p.x × FitsSigned w32 p.y × FitsSigned w32 p.z

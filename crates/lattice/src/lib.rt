@@ -2,8 +2,8 @@
 //! the directions in which a probe may travel.
 #![tactic(auto)]
 
-ghost use Rattle.std.specs.Prelude.{◌≡◌, ℕ, ◌+◌, ◌≤◌};
-ghost use Rattle.lattice.specs.Space.{dist, norm, within};
+ghost use Rattle.std.specs.Prelude.{◌≡◌, ℕ, ◌+◌, ◌≤◌, SomeIff};
+ghost use Rattle.lattice.specs.Space.{dist, norm, within, back, Held};
 
 pub mod direction;
 
@@ -42,5 +42,16 @@ impl Point {
         self.x.unsigned_abs() <= reach
             && self.y.unsigned_abs() <= reach
             && self.z.unsigned_abs() <= reach
+    }
+
+    /// The point from which `by` leads here; none where a coordinate of it is no `i32`.
+    pub fn checked_sub(self, by: Point) -> Option<Point>
+        ensures { SomeIff result (Held (back by self)) (back by self) }
+    {
+        Some(Point {
+            x: self.x.checked_sub(by.x)?,
+            y: self.y.checked_sub(by.y)?,
+            z: self.z.checked_sub(by.z)?,
+        })
     }
 }

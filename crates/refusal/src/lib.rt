@@ -1,7 +1,67 @@
-//! How the kit refuses: by a number and a place.
+//! How the kit refuses: by the number of a rule, and a place.
 #![tactic(auto)]
 
 ghost use Rattle.std.specs.Prelude.{◌≡◌, ℕ};
+ghost use Rattle.refusal.specs.Numbers.{rule_number};
+
+pub mod range;
+pub mod told;
+
+/// The rules that an input or a call may break, by their numbers.
+#[derive(Clone, Copy, PartialEq, Eq, Debug)]
+pub enum Rule {
+    /// Under four bytes remain where a word is due.
+    Short = 1,
+    /// A word's kind is not due there.
+    Kind = 2,
+    /// A bit that has no name is set.
+    Unnamed = 3,
+    /// A number is outside its range.
+    Range = 4,
+    /// A number is no row of the table of directions that moves.
+    Row = 5,
+    /// A box's lower corner is above its upper one on an axis.
+    Corners = 6,
+    /// A scene's start counts too few words, or too many.
+    Count = 7,
+    /// A node is one more than a scene may have.
+    Full = 8,
+    /// Fewer nodes stand than a node takes.
+    TooFew = 9,
+    /// A node that is to be thickened is not exact.
+    Inexact = 10,
+    /// A shift passes the reach of what it shifts.
+    PastReach = 11,
+    /// A node's numbers pass the count; or a scene ends, and it is not one node alone that stands.
+    Unfinished = 12,
+    /// The width or the depth of a surface is out of range.
+    Size = 13,
+    /// Bytes are left after the last part.
+    Left = 14,
+    /// There is a guard, and the scene is not exact.
+    Guard = 15,
+    /// A solid does not answer on all of the working range.
+    Shallow = 16,
+    /// A point is beyond a solid's reach.
+    BeyondReach = 17,
+    /// What is lent to read into or to work on is too short.
+    Buffer = 18,
+    /// A view has no such pixel.
+    NoPixel = 19,
+    /// A pixel still marches.
+    StillMarching = 20,
+    /// What is lent to write into is too short.
+    NoRoom = 21,
+}
+
+impl Rule {
+    /// The number under which a breach of the rule is told.
+    pub fn number(self) -> u32
+        ensures { result ≡ rule_number self }
+    {
+        self as u32
+    }
+}
 
 /// What a refused call answers. Every enum of faults gives, for each of its cases, the number
 /// of the rule that was broken and the place of the input that broke it; `told` is that pair.

@@ -6,6 +6,10 @@ use Rattle.solid.specs.declared.QuestionFault.{QuestionFault}
 use Rattle.solid.specs.declared.QuestionFault.TheVariants.{BeyondReach}
 use Rattle.solid.specs.Body.{Body}
 
+-- may a solid of that reach be asked at the point?
+abbrev pub asked : (reach : ℕ) → Point → Result Unit QuestionFault
+asked reach p = cond (within reach p) (Ok tt) (Err BeyondReach)
+
 abbrev pub answer : Body → Point → Result ℕ QuestionFault
 answer b p = cond (within b.reach p) (Ok (b.clear p)) (Err BeyondReach)
 

@@ -4,11 +4,11 @@
 
 ghost use Rattle.std.specs.Prelude.{◌≡◌, ℕ, ◌≤◌, true};
 ghost use Rattle.solid.specs.Body.{Body, Lawful};
-ghost use Rattle.solid.specs.Answer.{answer};
+ghost use Rattle.solid.specs.Answer.{answer, asked};
 ghost use Rattle.solid.specs.Told.{question_told};
 
 use lattice::Point;
-use refusal::Refusal;
+use refusal::{Refusal, Rule};
 
 /// Why a question is refused.
 #[derive(Clone, Copy, PartialEq, Eq, Debug)]
@@ -17,20 +17,28 @@ pub enum QuestionFault {
     BeyondReach,
 }
 
-const BEYOND_REACH: u32 = 17;
-
 impl Refusal for QuestionFault {
     ghost told = { question_told };
 
     fn number(&self) -> u32 {
         match self {
-            QuestionFault::BeyondReach => BEYOND_REACH,
+            QuestionFault::BeyondReach => Rule::BeyondReach.number(),
         }
     }
 
     fn place(&self) -> u32 {
         0
     }
+}
+
+/// Checks that a solid of that reach may be asked at the point.
+pub fn check_asked(reach: u32, p: Point) -> Result<(), QuestionFault>
+    ensures { result ≡ asked reach p }
+{
+    if !p.within(reach) {
+        return Err(QuestionFault::BeyondReach);
+    }
+    Ok(())
 }
 
 /// A solid. `body` is what it means, and `lawful` shows that it keeps the laws.

@@ -1,0 +1,11 @@
+-- A number that has to lie in a range, and the refusal of one that does not.
+use Rattle.std.specs.Prelude.{ℕ, cond, ◌&&◌, ℤ, int_le, Result, Ok, Err}
+use Rattle.refusal.specs.declared.range.OutOfRange.{OutOfRange}
+
+-- the number and the place of the refusal
+abbrev pub range_told : OutOfRange → ℕ × ℕ
+range_told fault = (4, fault.place)
+
+-- the number at a place, where it lies in least..most
+abbrev pub in_range : (n least most : ℤ) (place : ℕ) → Result ℤ OutOfRange
+in_range n least most place = cond (int_le least n && int_le n most) (Ok n) (Err (record { place = place }))
