@@ -1,3 +1,4 @@
+pub mod Numbers
 pub mod Stands
 pub mod ReadBack
 pub mod Sheets

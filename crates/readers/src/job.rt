@@ -9,7 +9,7 @@ ghost use Rattle.readers.specs.declared.job.JobFault.TheVariants.{Word};
 
 use lattice::Point;
 use march::view::ViewNumbers;
-use refusal::Refusal;
+use refusal::{Refusal, Rule};
 use words::fault::WordFault;
 
 pub mod reads;
@@ -42,8 +42,6 @@ pub enum JobFault {
     Corners,
 }
 
-const CORNERS: u32 = 6;
-
 /// The place of the clip box's first number.
 const CLIP_PLACE: u32 = 14;
 
@@ -53,7 +51,7 @@ impl Refusal for JobFault {
     fn number(&self) -> u32 {
         match self {
             JobFault::Word(fault) => fault.number(),
-            JobFault::Corners => CORNERS,
+            JobFault::Corners => Rule::Corners.number(),
         }
     }
 

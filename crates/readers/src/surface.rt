@@ -1,9 +1,9 @@
 //! A surface, as it is read: its sizes. The heights go to the caller.
-ghost use Rattle.std.specs.Prelude.{◌≡◌};
+ghost use Rattle.std.specs.Prelude.{◌≡◌, ◌*◌};
 ghost use Rattle.readers.specs.SurfaceTold.{surface_told};
 ghost use Rattle.readers.specs.declared.surface.SurfaceReadFault.TheVariants.{Word};
 
-use refusal::Refusal;
+use refusal::{Refusal, Rule};
 use words::fault::WordFault;
 
 pub mod reads;
@@ -13,6 +13,15 @@ pub mod reads;
 pub struct SurfaceSize {
     pub width: u32,
     pub depth: u32,
+}
+
+impl SurfaceSize {
+    /// How many columns the surface has.
+    pub fn columns(self) -> usize
+        ensures { result ≡ self.width * self.depth }
+    {
+        self.width as usize * self.depth as usize
+    }
 }
 
 /// Why a surface is refused.
@@ -26,26 +35,21 @@ pub enum SurfaceReadFault {
     Buffer,
 }
 
-const SIZE: u32 = 13;
-
-const BUFFER: u32 = 18;
-
 impl Refusal for SurfaceReadFault {
     ghost told = { surface_told };
 
     fn number(&self) -> u32 {
         match self {
             SurfaceReadFault::Word(fault) => fault.number(),
-            SurfaceReadFault::Size => SIZE,
-            SurfaceReadFault::Buffer => BUFFER,
+            SurfaceReadFault::Size => Rule::Size.number(),
+            SurfaceReadFault::Buffer => Rule::Buffer.number(),
         }
     }
 
     fn place(&self) -> u32 {
         match self {
             SurfaceReadFault::Word(fault) => fault.place(),
-            SurfaceReadFault::Size => 0,
-            SurfaceReadFault::Buffer => 0,
+            SurfaceReadFault::Size | SurfaceReadFault::Buffer => 0,
         }
     }
 }

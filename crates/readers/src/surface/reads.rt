@@ -8,10 +8,9 @@ ghost use Rattle.readers.specs.SurfacesBack.{SurfacesReadBack};
 
 use super::{SurfaceReadFault, SurfaceSize};
 use words::fault::WordFault;
+use words::kind::Kind;
 use words::reader::Reader;
 
-/// The kind of a surface's start word.
-const SURFACE: u32 = 9;
 /// The start word has the depth in its low 16 bits, and the width above them.
 const DEPTHS: u32 = 0x1_0000;
 /// The most columns on a side, and in all.
@@ -22,10 +21,11 @@ const MOST_HEIGHTS: usize = 4096;
 fn is_side(n: u32) -> bool
     ensures { result ≡ side n }
 {
-    1 <= n && n <= MOST_COLUMNS
+    (1..=MOST_COLUMNS).contains(&n)
 }
 
 /// Reads the start word.
+#[tactic(auto, using(crate::proofs::Sheets::few), unfolding(crate::specs::Surfaces::size_of))]
 fn size(from: &mut Reader<'_>, room: usize) -> Result<SurfaceSize, SurfaceReadFault>
     requires { place from.old ≡ 0 }
     ensures value { result ≡ size_of (text from.old) room }
@@ -34,28 +34,29 @@ fn size(from: &mut Reader<'_>, room: usize) -> Result<SurfaceSize, SurfaceReadFa
     ensures fits { IfOk result (λ s. s.width * s.depth ≤ room) }
 {
     let mut ahead = *from;
-    let (_, sides) = ahead.word(SURFACE, SURFACE)?;
-    let width = sides / DEPTHS;
-    let depth = sides % DEPTHS;
-    if !is_side(width) || !is_side(depth) {
+    let sides = ahead.rest_of(Kind::Surface)?;
+    let size = SurfaceSize {
+        width: sides / DEPTHS,
+        depth: sides % DEPTHS,
+    };
+    if !is_side(size.width) || !is_side(size.depth) {
         return Err(SurfaceReadFault::Size);
     }
-    if room < (width * depth) as usize {
+    if room < size.columns() {
         return Err(SurfaceReadFault::Buffer);
     }
     *from = ahead;
-    Ok(SurfaceSize { width, depth })
+    Ok(size)
 }
 
-/// Reads the heights of n columns onto a sheet.
-fn heights(from: &mut Reader<'_>, sheet: &mut [i16], n: usize) -> Result<(), WordFault>
-    requires { n ≤ length sheet.old }
-    ensures value { held result (take n sheet.new) ≡ heights_at (text from.old) (place from.old) n }
+/// Reads the heights of the columns of a sheet.
+fn heights(from: &mut Reader<'_>, sheet: &mut [i16]) -> Result<(), WordFault>
+    ensures value { held result sheet.new ≡ heights_at (text from.old) (place from.old) (length sheet.old) }
     ensures text { from.new.bytes ≡ from.old.bytes }
-    ensures at { OnOk result (from.new.at ≡ from.old.at + n) }
+    ensures at { OnOk result (from.new.at ≡ from.old.at + length sheet.old) }
 {
-    for k in 0..n {
-        sheet[k] = from.number()?;
+    for height in sheet.iter_mut() {
+        *height = from.number()?;
     }
     Ok(())
 }
@@ -63,6 +64,7 @@ fn heights(from: &mut Reader<'_>, sheet: &mut [i16], n: usize) -> Result<(), Wor
 /// Reads a surface, which begins at the word that is due, and puts its heights into the caller's
 /// buffer, one row along x after another; those past the last column are left. A refused surface
 /// leaves the reader and the heights as they were. Every surface is read back from its words.
+#[tactic(auto, unfolding(crate::specs::Surfaces::surface_of))]
 pub fn read_surface(
     from: &mut Reader<'_>,
     buffer: &mut [i16],
@@ -75,9 +77,9 @@ pub fn read_surface(
     let mut ahead = *from;
     ahead.next_part();
     let size = size(&mut ahead, buffer.len())?;
-    let columns = (size.width * size.depth) as usize;
+    let columns = size.columns();
     let mut sheet = [0; MOST_HEIGHTS];
-    heights(&mut ahead, &mut sheet, columns)?;
+    heights(&mut ahead, &mut sheet[..columns])?;
     buffer[..columns].copy_from_slice(&sheet[..columns]);
     *from = ahead;
     Ok(size)
