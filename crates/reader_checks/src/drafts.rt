@@ -1,6 +1,6 @@
 //! Scenes built by calls: too many nodes, and shifts that use up the reach.
+use crate::files::{Answer, number_and_place};
 use lattice::Point;
-use refusal::Refusal;
 use scene::Scene;
 use scene::draft::{Draft, DraftFault};
 use solid::Solid;
@@ -14,12 +14,12 @@ const FARTHEST: Point = Point {
     z: 0,
 };
 
-/// The number and the place of a refused call, or 0 and the reach of the scene.
-fn told(answer: Result<(), DraftFault>, draft: &Draft) -> (u32, u32) {
+/// The reach of the scene, or the number and the place of a refused call.
+fn told(answer: Result<(), DraftFault>, draft: &Draft) -> Answer<u32> {
     let mut scene = Scene::new();
     match answer.and(scene.fill(draft)) {
-        Ok(()) => (0, scene.reach()),
-        Err(fault) => (fault.number(), fault.place()),
+        Ok(()) => Ok(scene.reach()),
+        Err(fault) => Err(number_and_place(&fault)),
     }
 }
 
@@ -32,7 +32,7 @@ fn shifts(draft: &mut Draft, times: u32) -> Result<(), DraftFault> {
     Ok(())
 }
 
-fn shifted(times: u32) -> (u32, u32) {
+fn shifted(times: u32) -> Answer<u32> {
     let mut draft = Draft::new();
     let answer = shifts(&mut draft, times);
     told(answer, &draft)
@@ -40,10 +40,10 @@ fn shifted(times: u32) -> (u32, u32) {
 
 #[test]
 fn shifts_use_up_the_reach(rt: HostRuntime) -> Result<(), Fail> {
-    assert_eq!(rt; shifted(62), (0, 32_830));
-    assert_eq!(rt; shifted(63), (0, 16_447));
-    assert_eq!(rt; shifted(64), (0, 64));
-    assert_eq!(rt; shifted(65), (11, 0));
+    assert_eq!(rt; shifted(62), Ok(32_830));
+    assert_eq!(rt; shifted(63), Ok(16_447));
+    assert_eq!(rt; shifted(64), Ok(64));
+    assert_eq!(rt; shifted(65), Err((11, 0)));
     Ok(())
 }
 
@@ -59,14 +59,14 @@ fn balls(draft: &mut Draft, times: u32) -> Result<(), DraftFault> {
 fn at_most_256_nodes(rt: HostRuntime) -> Result<(), Fail> {
     let mut draft = Draft::new();
     let most = balls(&mut draft, 256);
-    assert_eq!(rt; told(most, &draft), (12, 0));
+    assert_eq!(rt; told(most, &draft), Err((12, 0)));
     assert_eq!(rt; draft.nodes(), 256);
     assert_eq!(rt; draft.standing(), 256);
     // there is no room, whatever else is wrong with the node
     let ball = draft.ball(ORIGIN, -1);
-    assert_eq!(rt; told(ball, &draft), (8, 0));
+    assert_eq!(rt; told(ball, &draft), Err((8, 0)));
     let unite = draft.unite();
-    assert_eq!(rt; told(unite, &draft), (8, 0));
+    assert_eq!(rt; told(unite, &draft), Err((8, 0)));
     assert_eq!(rt; draft.standing(), 256);
     Ok(())
 }
@@ -80,21 +80,21 @@ fn which_of_two_faults_comes_first(rt: HostRuntime) -> Result<(), Fail> {
         y: 0,
         z: 16_384,
     });
-    assert_eq!(rt; told(shift, &draft), (9, 0));
+    assert_eq!(rt; told(shift, &draft), Err((9, 0)));
     let thicken = draft.thicken(1024);
-    assert_eq!(rt; told(thicken, &draft), (9, 0));
+    assert_eq!(rt; told(thicken, &draft), Err((9, 0)));
     let two = balls(&mut draft, 2);
-    assert_eq!(rt; told(two, &draft), (12, 0));
+    assert_eq!(rt; told(two, &draft), Err((12, 0)));
     let meet = draft.meet();
-    assert_eq!(rt; told(meet, &draft), (0, 1_048_576));
+    assert_eq!(rt; told(meet, &draft), Ok(1_048_576));
     // a meet is not exact, and the number is out of range
     let thicken = draft.thicken(1024);
-    assert_eq!(rt; told(thicken, &draft), (10, 0));
+    assert_eq!(rt; told(thicken, &draft), Err((10, 0)));
     let shift = draft.shift(Point {
         x: 0,
         y: 0,
         z: 16_384,
     });
-    assert_eq!(rt; told(shift, &draft), (4, 3));
+    assert_eq!(rt; told(shift, &draft), Err((4, 3)));
     Ok(())
 }

@@ -1,43 +1,40 @@
-//! Files made of words.
+//! Files made of words, and what is told of them.
+use refusal::Refusal;
 use std::alloc::{AllocError, Global};
+use words::kind::Kind;
+
+/// What is read, or the number and the place of its refusal.
+pub(crate) type Answer<T> = Result<T, (u32, u32)>;
+
+/// The number and the place of a fault.
+pub(crate) fn number_and_place<F: Refusal>(fault: &F) -> (u32, u32) {
+    (fault.number(), fault.place())
+}
 
 /// A number word.
 pub(crate) fn number(n: i16) -> u32 {
-    let n = n as i32;
-    let low = if n < 0 { n + 0x1_0000 } else { n };
-    0x2000_0000 + low as u32
+    Kind::Number.word(u32::from(n.cast_unsigned()))
 }
 
-/// The words as a file, the word at `place` in place of its own.
-pub(crate) fn with(
-    heap: Global,
-    words: &[u32],
-    place: u32,
-    word: u32,
-) -> Result<Vec<u8>, AllocError> {
-    let mut file = Vec::new(heap);
-    for (k, w) in words.iter().enumerate() {
-        let put = if k == place as usize { word } else { *w };
-        for b in put.to_le_bytes() {
-            file.push(b)?;
-        }
+/// The words, the one at `place` in place of its own.
+pub(crate) fn with<const N: usize>(words: [u32; N], place: u32, word: u32) -> [u32; N] {
+    let mut changed = words;
+    if let Some(own) = changed.get_mut(place as usize) {
+        *own = word;
     }
-    Ok(file)
+    changed
 }
 
 /// The words as a file.
 pub(crate) fn file_of(heap: Global, words: &[u32]) -> Result<Vec<u8>, AllocError> {
     let mut file = Vec::new(heap);
-    for w in words {
-        for b in w.to_le_bytes() {
-            file.push(b)?;
-        }
+    for word in words {
+        file.extend_from_slice(&word.to_le_bytes())?;
     }
     Ok(file)
 }
 
 /// The first `n` bytes, or all where there are fewer.
 pub(crate) fn cut(bytes: &[u8], n: u32) -> &[u8] {
-    let n = n as usize;
-    if n < bytes.len() { &bytes[0..n] } else { bytes }
+    bytes.get(..n as usize).unwrap_or(bytes)
 }

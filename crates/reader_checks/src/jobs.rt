@@ -1,8 +1,6 @@
 //! Jobs: truncated, of another kind, with a bit too many, out of range, and with two faults at once.
-use crate::files::{cut, file_of, number, with};
-use readers::job::JobFault;
+use crate::files::{Answer, cut, file_of, number, number_and_place, with};
 use readers::job::reads::read_job;
-use refusal::Refusal;
 use std::process::Abort;
 use std::test::*;
 use words::reader::Reader;
@@ -31,18 +29,17 @@ const JOB: [u32; 20] = [
     0x2000_0064,
 ];
 
-/// The number and the place of a refused job, or (0, 0).
-fn told(bytes: &[u8]) -> (u32, u32) {
-    let mut from = Reader::new(bytes);
-    match read_job(&mut from) {
-        Ok(_) => (0, 0),
-        Err(fault) => (fault.number(), fault.place()),
+/// Whether a job is read, or else the number and the place of its refusal.
+fn told(bytes: &[u8]) -> Answer<()> {
+    match read_job(&mut Reader::new(bytes)) {
+        Ok(_) => Ok(()),
+        Err(fault) => Err(number_and_place(&fault)),
     }
 }
 
 /// That for one word in place of its own.
-fn told_with(rt: &impl AllocGlobal, place: u32, word: u32) -> Result<(u32, u32), Fail> {
-    let file = with(rt.alloc(), &JOB, place, word)?;
+fn told_with(rt: &impl AllocGlobal, place: u32, word: u32) -> Result<Answer<()>, Fail> {
+    let file = file_of(rt.alloc(), &with(JOB, place, word))?;
     Ok(told(&file))
 }
 
@@ -50,9 +47,9 @@ fn told_with(rt: &impl AllocGlobal, place: u32, word: u32) -> Result<(u32, u32),
 fn a_job_cut_at_every_byte(rt: HostRuntime) -> Result<(), Fail> {
     let file = file_of(rt.alloc(), &JOB)?;
     for n in 0..80 {
-        assert_eq!(rt; told(cut(&file, n)), (1, n / 4));
+        assert_eq!(rt; told(cut(&file, n)), Err((1, n / 4)));
     }
-    assert_eq!(rt; told(&file), (0, 0));
+    assert_eq!(rt; told(&file), Ok(()));
     Ok(())
 }
 
@@ -63,7 +60,7 @@ fn every_kind_at_every_place_of_a_job(rt: HostRuntime) -> Result<(), Fail> {
         for kind in 0..16 {
             if kind != due {
                 let word = kind * 0x1000_0000 + 1;
-                assert_eq!(rt; told_with(&rt, place, word)?, (2, place));
+                assert_eq!(rt; told_with(&rt, place, word)?, Err((2, place)));
             }
         }
     }
@@ -73,13 +70,16 @@ fn every_kind_at_every_place_of_a_job(rt: HostRuntime) -> Result<(), Fail> {
 #[test]
 fn every_unnamed_bit_of_a_job(rt: HostRuntime) -> Result<(), Fail> {
     for bit in 0u32..28 {
-        assert_eq!(rt; told_with(&rt, 0, 0xd000_0000 | (1u32 << bit))?, (3, 0));
+        assert_eq!(rt;
+            told_with(&rt, 0, 0xd000_0000 | (1u32 << bit))?,
+            Err((3, 0))
+        );
     }
     for place in 1..20 {
         for bit in 16u32..28 {
             assert_eq!(rt;
                 told_with(&rt, place, 0x2000_0001 | (1u32 << bit))?,
-                (3, place)
+                Err((3, place))
             );
         }
     }
@@ -88,7 +88,7 @@ fn every_unnamed_bit_of_a_job(rt: HostRuntime) -> Result<(), Fail> {
 
 /// A number of the job in place of its own is refused by this number, at its place.
 fn refused(rt: &(impl Abort + AllocGlobal), place: u32, n: i16, by: u32) -> Result<(), Fail> {
-    assert_eq!(rt; told_with(rt, place, number(n))?, (by, place));
+    assert_eq!(rt; told_with(rt, place, number(n))?, Err((by, place)));
     Ok(())
 }
 
@@ -124,12 +124,12 @@ fn numbers_of_a_job_out_of_range(rt: HostRuntime) -> Result<(), Fail> {
 
 #[test]
 fn corners_come_last(rt: HostRuntime) -> Result<(), Fail> {
-    assert_eq!(rt; told_with(&rt, 16, number(101))?, (6, 14));
-    assert_eq!(rt; told_with(&rt, 17, number(-101))?, (6, 14));
-    let crossed = with(rt.alloc(), &JOB, 14, number(101))?;
-    assert_eq!(rt; told(cut(&crossed, 79)), (1, 19));
-    let range = with(rt.alloc(), &JOB, 4, number(13))?;
-    assert_eq!(rt; told(cut(&range, 20)), (5, 4));
-    assert_eq!(rt; told(cut(&range, 19)), (1, 4));
+    assert_eq!(rt; told_with(&rt, 16, number(101))?, Err((6, 14)));
+    assert_eq!(rt; told_with(&rt, 17, number(-101))?, Err((6, 14)));
+    let crossed = file_of(rt.alloc(), &with(JOB, 14, number(101)))?;
+    assert_eq!(rt; told(cut(&crossed, 79)), Err((1, 19)));
+    let range = file_of(rt.alloc(), &with(JOB, 4, number(13)))?;
+    assert_eq!(rt; told(cut(&range, 20)), Err((5, 4)));
+    assert_eq!(rt; told(cut(&range, 19)), Err((1, 4)));
     Ok(())
 }

@@ -1,8 +1,6 @@
 //! Scenes: whole, damaged, too long, and too far from their reach.
-use crate::files::{cut, file_of, number, with};
-use refusal::Refusal;
+use crate::files::{Answer, cut, file_of, number, number_and_place, with};
 use scene::Scene;
-use scene_reader::fault::SceneFault;
 use scene_reader::reads::read_scene;
 use solid::Solid;
 use std::test::*;
@@ -61,49 +59,47 @@ const SCENE: [u32; 20] = [
     0x2000_0003,
 ];
 
-/// The number and the place of a refused scene, or 0 and the reach.
-fn told(bytes: &[u8]) -> (u32, u32) {
-    let mut from = Reader::new(bytes);
+/// The reach of a scene, or the number and the place of its refusal.
+fn told(bytes: &[u8]) -> Answer<u32> {
     let mut scene = Scene::new();
-    match read_scene(&mut from, &mut scene) {
-        Ok(()) => (0, scene.reach()),
-        Err(fault) => (fault.number(), fault.place()),
+    match read_scene(&mut Reader::new(bytes), &mut scene) {
+        Ok(()) => Ok(scene.reach()),
+        Err(fault) => Err(number_and_place(&fault)),
     }
 }
 
-fn told_of(rt: &HostRuntime, words: &[u32]) -> Result<(u32, u32), Fail> {
+fn told_of(rt: &HostRuntime, words: &[u32]) -> Result<Answer<u32>, Fail> {
     let file = file_of(rt.alloc(), words)?;
     Ok(told(&file))
 }
 
-fn told_with(rt: &HostRuntime, place: u32, word: u32) -> Result<(u32, u32), Fail> {
-    let file = with(rt.alloc(), &SCENE, place, word)?;
-    Ok(told(&file))
+fn told_with(rt: &HostRuntime, place: u32, word: u32) -> Result<Answer<u32>, Fail> {
+    told_of(rt, &with(SCENE, place, word))
 }
 
 #[test]
 fn a_scene_cut_at_every_byte(rt: HostRuntime) -> Result<(), Fail> {
     let file = file_of(rt.alloc(), &SCENE)?;
     for n in 0..80 {
-        assert_eq!(rt; told(cut(&file, n)), (1, n / 4));
+        assert_eq!(rt; told(cut(&file, n)), Err((1, n / 4)));
     }
-    assert_eq!(rt; told(&file), (0, 1_048_575));
+    assert_eq!(rt; told(&file), Ok(1_048_575));
     Ok(())
 }
 
 #[test]
 fn kinds_and_bits_of_a_scene(rt: HostRuntime) -> Result<(), Fail> {
     for word in OTHER_KINDS {
-        assert_eq!(rt; told_with(&rt, 0, word)?, (2, 0));
-        assert_eq!(rt; told_with(&rt, 1, word)?, (2, 1));
-        assert_eq!(rt; told_with(&rt, 13, word)?, (2, 13));
+        assert_eq!(rt; told_with(&rt, 0, word)?, Err((2, 0)));
+        assert_eq!(rt; told_with(&rt, 1, word)?, Err((2, 1)));
+        assert_eq!(rt; told_with(&rt, 13, word)?, Err((2, 13)));
     }
     for place in [1, 6, 13, 14, 18] {
-        assert_eq!(rt; told_with(&rt, place, BALL + 1)?, (3, place));
+        assert_eq!(rt; told_with(&rt, place, BALL + 1)?, Err((3, place)));
     }
     for place in [2, 5, 9, 15, 19] {
-        assert_eq!(rt; told_with(&rt, place, BALL)?, (2, place));
-        assert_eq!(rt; told_with(&rt, place, 0x2001_0000)?, (3, place));
+        assert_eq!(rt; told_with(&rt, place, BALL)?, Err((2, place)));
+        assert_eq!(rt; told_with(&rt, place, 0x2001_0000)?, Err((3, place)));
     }
     Ok(())
 }
@@ -120,7 +116,8 @@ fn standing_at(place: u32) -> Option<u32> {
     }
 }
 
-/// How many numbers a node of a kind has, and how many nodes it takes.
+/// How many numbers a node of a kind has, and how many nodes it takes. Kinds are told here by the
+/// numbers that a file has for them, so that a wrong number of a `Kind` is found.
 fn shape(kind: u32) -> Option<(u32, u32)> {
     match kind {
         3 => Some((4, 0)),
@@ -149,20 +146,20 @@ fn first_misfit(node: u32, numbers: u32) -> Option<u32> {
 
 /// What the scene tells with a word of another kind, all of whose other bits are zero, in the
 /// place of a node's.
-fn with_node(place: u32, standing: u32, kind: u32) -> (u32, u32) {
+fn with_node(place: u32, standing: u32, kind: u32) -> Answer<u32> {
     match shape(kind) {
-        None => (2, place),
+        None => Err((2, place)),
         Some((numbers, takes)) => {
             if numbers > 19u32.saturating_sub(place) {
-                (12, place)
+                Err((12, place))
             } else if standing < takes {
-                (9, place)
+                Err((9, place))
             } else {
                 match first_misfit(place, numbers) {
-                    Some(misfit) => (2, misfit),
+                    Some(misfit) => Err((2, misfit)),
                     // a meet in the place of the unite, which is thickened later
-                    None if kind == 6 => (10, 18),
-                    None => (0, 1_048_575),
+                    None if kind == 6 => Err((10, 18)),
+                    None => Ok(1_048_575),
                 }
             }
         }
@@ -170,14 +167,14 @@ fn with_node(place: u32, standing: u32, kind: u32) -> (u32, u32) {
 }
 
 /// The same, at every place.
-fn with_kind(place: u32, kind: u32) -> (u32, u32) {
+fn with_kind(place: u32, kind: u32) -> Answer<u32> {
     match standing_at(place) {
         Some(standing) => with_node(place, standing, kind),
-        None if place == 0 => { if kind == 1 { (7, 0) } else { (2, 0) } }
-        None if kind != 2 => (2, place),
+        None if place == 0 => { if kind == 1 { Err((7, 0)) } else { Err((2, 0)) } }
+        None if kind != 2 => Err((2, place)),
         // without its one step the shift takes nothing of the reach
-        None if place == 15 => (0, 1_048_576),
-        None => (0, 1_048_575),
+        None if place == 15 => Ok(1_048_576),
+        None => Ok(1_048_575),
     }
 }
 
@@ -202,7 +199,10 @@ fn unnamed_bits_of_a_scene(rt: HostRuntime) -> Result<(), Fail> {
             None => (ZERO, 16),
         };
         for bit in named..28 {
-            assert_eq!(rt; told_with(&rt, place, due | (1u32 << bit))?, (3, place));
+            assert_eq!(rt;
+                told_with(&rt, place, due | (1u32 << bit))?,
+                Err((3, place))
+            );
         }
     }
     Ok(())
@@ -210,44 +210,44 @@ fn unnamed_bits_of_a_scene(rt: HostRuntime) -> Result<(), Fail> {
 
 #[test]
 fn numbers_of_a_scene_out_of_range(rt: HostRuntime) -> Result<(), Fail> {
-    assert_eq!(rt; told_with(&rt, 2, number(-16385))?, (4, 2));
-    assert_eq!(rt; told_with(&rt, 5, number(-1))?, (4, 5));
-    assert_eq!(rt; told_with(&rt, 5, number(16384))?, (4, 5));
-    assert_eq!(rt; told_with(&rt, 12, number(16384))?, (4, 12));
-    assert_eq!(rt; told_with(&rt, 10, number(-1))?, (6, 6));
-    assert_eq!(rt; told_with(&rt, 15, number(-16384))?, (4, 15));
-    assert_eq!(rt; told_with(&rt, 19, number(1024))?, (4, 19));
-    assert_eq!(rt; told_with(&rt, 19, number(-1))?, (4, 19));
+    assert_eq!(rt; told_with(&rt, 2, number(-16385))?, Err((4, 2)));
+    assert_eq!(rt; told_with(&rt, 5, number(-1))?, Err((4, 5)));
+    assert_eq!(rt; told_with(&rt, 5, number(16384))?, Err((4, 5)));
+    assert_eq!(rt; told_with(&rt, 12, number(16384))?, Err((4, 12)));
+    assert_eq!(rt; told_with(&rt, 10, number(-1))?, Err((6, 6)));
+    assert_eq!(rt; told_with(&rt, 15, number(-16384))?, Err((4, 15)));
+    assert_eq!(rt; told_with(&rt, 19, number(1024))?, Err((4, 19)));
+    assert_eq!(rt; told_with(&rt, 19, number(-1))?, Err((4, 19)));
     Ok(())
 }
 
 #[test]
 fn counts_of_a_scene(rt: HostRuntime) -> Result<(), Fail> {
-    assert_eq!(rt; told_with(&rt, 0, 0x1000_0000)?, (7, 0));
-    assert_eq!(rt; told_with(&rt, 0, 0x1000_0701)?, (7, 0));
-    assert_eq!(rt; told_with(&rt, 0, 0x1fff_ffff)?, (7, 0));
-    assert_eq!(rt; told_with(&rt, 0, 0x1000_0700)?, (1, 20));
-    assert_eq!(rt; told_with(&rt, 0, 0x1000_0001)?, (12, 1));
-    assert_eq!(rt; told_with(&rt, 0, 0x1000_0005)?, (0, 1_048_576));
-    assert_eq!(rt; told_with(&rt, 0, 0x1000_000b)?, (12, 6));
-    assert_eq!(rt; told_with(&rt, 0, 0x1000_000c)?, (12, 12));
-    assert_eq!(rt; told_with(&rt, 0, 0x1000_0012)?, (12, 18));
+    assert_eq!(rt; told_with(&rt, 0, 0x1000_0000)?, Err((7, 0)));
+    assert_eq!(rt; told_with(&rt, 0, 0x1000_0701)?, Err((7, 0)));
+    assert_eq!(rt; told_with(&rt, 0, 0x1fff_ffff)?, Err((7, 0)));
+    assert_eq!(rt; told_with(&rt, 0, 0x1000_0700)?, Err((1, 20)));
+    assert_eq!(rt; told_with(&rt, 0, 0x1000_0001)?, Err((12, 1)));
+    assert_eq!(rt; told_with(&rt, 0, 0x1000_0005)?, Ok(1_048_576));
+    assert_eq!(rt; told_with(&rt, 0, 0x1000_000b)?, Err((12, 6)));
+    assert_eq!(rt; told_with(&rt, 0, 0x1000_000c)?, Err((12, 12)));
+    assert_eq!(rt; told_with(&rt, 0, 0x1000_0012)?, Err((12, 18)));
     Ok(())
 }
 
 #[test]
 fn which_of_two_faults_comes_first(rt: HostRuntime) -> Result<(), Fail> {
     // too few nodes stand, and the numbers pass the count: 12 comes first
-    assert_eq!(rt; told_of(&rt, &[0x1000_0001, SHIFT])?, (12, 1));
+    assert_eq!(rt; told_of(&rt, &[0x1000_0001, SHIFT])?, Err((12, 1)));
     assert_eq!(rt;
         told_of(&rt, &[0x1000_0004, SHIFT, ZERO, ZERO, ZERO])?,
-        (9, 1)
+        Err((9, 1))
     );
-    assert_eq!(rt; told_of(&rt, &[0x1000_0001, UNITE])?, (9, 1));
-    assert_eq!(rt; told_of(&rt, &[0x1000_0001, MEET])?, (9, 1));
+    assert_eq!(rt; told_of(&rt, &[0x1000_0001, UNITE])?, Err((9, 1)));
+    assert_eq!(rt; told_of(&rt, &[0x1000_0001, MEET])?, Err((9, 1)));
     assert_eq!(rt;
         told_of(&rt, &[0x1000_0006, BALL, ZERO, ZERO, ZERO, ZERO, UNITE])?,
-        (9, 6)
+        Err((9, 6))
     );
     // a meet is thickened, by a number that is out of range: 10 comes first
     let thickened = [
@@ -266,7 +266,7 @@ fn which_of_two_faults_comes_first(rt: HostRuntime) -> Result<(), Fail> {
         THICKEN,
         0x2000_7fff,
     ];
-    assert_eq!(rt; told_of(&rt, &thickened)?, (10, 12));
+    assert_eq!(rt; told_of(&rt, &thickened)?, Err((10, 12)));
     // crossed corners, and a later number out of range: the number comes first
     let crossed = [
         0x1000_0007,
@@ -278,32 +278,28 @@ fn which_of_two_faults_comes_first(rt: HostRuntime) -> Result<(), Fail> {
         ZERO,
         0x2000_7fff,
     ];
-    assert_eq!(rt; told_of(&rt, &crossed)?, (4, 7));
+    assert_eq!(rt; told_of(&rt, &crossed)?, Err((4, 7)));
     Ok(())
 }
 
 #[test]
 fn which_of_two_faults_of_one_word_comes_first(rt: HostRuntime) -> Result<(), Fail> {
     // a start word of another kind that counts nothing, a node of no kind with a bit too many
-    assert_eq!(rt; told_with(&rt, 0, 0x2000_0000)?, (2, 0));
-    assert_eq!(rt; told_with(&rt, 13, 0x2000_0001)?, (2, 13));
+    assert_eq!(rt; told_with(&rt, 0, 0x2000_0000)?, Err((2, 0)));
+    assert_eq!(rt; told_with(&rt, 13, 0x2000_0001)?, Err((2, 13)));
     // a bit too many, and too few nodes stand
-    assert_eq!(rt; told_of(&rt, &[0x1000_0001, UNITE + 1])?, (3, 1));
+    assert_eq!(rt; told_of(&rt, &[0x1000_0001, UNITE + 1])?, Err((3, 1)));
     // nothing stands that could be inexact
-    assert_eq!(rt; told_of(&rt, &[0x1000_0002, THICKEN, ZERO])?, (9, 1));
+    assert_eq!(rt; told_of(&rt, &[0x1000_0002, THICKEN, ZERO])?, Err((9, 1)));
     Ok(())
 }
 
 /// A ball, and then so many nodes of these words, under a start word.
-fn ball_and(rt: &HostRuntime, start: u32, node: &[u32], times: u32) -> Result<(u32, u32), Fail> {
+fn ball_and(rt: &HostRuntime, start: u32, node: &[u32], times: u32) -> Result<Answer<u32>, Fail> {
     let mut words = Vec::new(rt.alloc());
-    for word in [start, BALL, ZERO, ZERO, ZERO, ZERO] {
-        words.push(word)?;
-    }
+    words.extend_from_slice(&[start, BALL, ZERO, ZERO, ZERO, ZERO])?;
     for _ in 0..times {
-        for word in node {
-            words.push(*word)?;
-        }
+        words.extend_from_slice(node)?;
     }
     told_of(rt, &words)
 }
@@ -312,11 +308,11 @@ fn ball_and(rt: &HostRuntime, start: u32, node: &[u32], times: u32) -> Result<(u
 fn at_most_256_nodes(rt: HostRuntime) -> Result<(), Fail> {
     assert_eq!(rt;
         ball_and(&rt, 0x1000_0203, &[THICKEN, ZERO], 255)?,
-        (0, 1_048_576)
+        Ok(1_048_576)
     );
     assert_eq!(rt;
         ball_and(&rt, 0x1000_0205, &[THICKEN, ZERO], 256)?,
-        (8, 516)
+        Err((8, 516))
     );
     Ok(())
 }
@@ -326,37 +322,35 @@ fn the_257th_node_comes_before_its_numbers(rt: HostRuntime) -> Result<(), Fail> 
     // its number passes the count too
     assert_eq!(rt;
         ball_and(&rt, 0x1000_0204, &[THICKEN, ZERO], 256)?,
-        (8, 516)
+        Err((8, 516))
     );
     Ok(())
 }
 
 /// So many boxes, under a start word.
-fn boxes(rt: &HostRuntime, start: u32, times: u32) -> Result<(u32, u32), Fail> {
+fn boxes(rt: &HostRuntime, start: u32, times: u32) -> Result<Answer<u32>, Fail> {
     let mut words = Vec::new(rt.alloc());
     words.push(start)?;
     for _ in 0..times {
-        for word in [BOX, ZERO, ZERO, ZERO, ZERO, ZERO, ZERO] {
-            words.push(word)?;
-        }
+        words.extend_from_slice(&[BOX, ZERO, ZERO, ZERO, ZERO, ZERO, ZERO])?;
     }
     told_of(rt, &words)
 }
 
 #[test]
 fn the_most_words_are_256_boxes(rt: HostRuntime) -> Result<(), Fail> {
-    assert_eq!(rt; boxes(&rt, 0x1000_0007, 1)?, (0, 1_048_576));
-    assert_eq!(rt; boxes(&rt, 0x1000_0700, 256)?, (12, 1792));
-    assert_eq!(rt; boxes(&rt, 0x1000_0701, 257)?, (7, 0));
+    assert_eq!(rt; boxes(&rt, 0x1000_0007, 1)?, Ok(1_048_576));
+    assert_eq!(rt; boxes(&rt, 0x1000_0700, 256)?, Err((12, 1792)));
+    assert_eq!(rt; boxes(&rt, 0x1000_0701, 257)?, Err((7, 0)));
     Ok(())
 }
 
 #[test]
 fn a_chain_of_shifts_uses_up_the_reach(rt: HostRuntime) -> Result<(), Fail> {
     let shift = [SHIFT, FARTHEST, ZERO, ZERO];
-    assert_eq!(rt; ball_and(&rt, 0x1000_00fd, &shift, 62)?, (0, 32_830));
-    assert_eq!(rt; ball_and(&rt, 0x1000_0101, &shift, 63)?, (0, 16_447));
-    assert_eq!(rt; ball_and(&rt, 0x1000_0105, &shift, 64)?, (0, 64));
-    assert_eq!(rt; ball_and(&rt, 0x1000_0109, &shift, 65)?, (11, 262));
+    assert_eq!(rt; ball_and(&rt, 0x1000_00fd, &shift, 62)?, Ok(32_830));
+    assert_eq!(rt; ball_and(&rt, 0x1000_0101, &shift, 63)?, Ok(16_447));
+    assert_eq!(rt; ball_and(&rt, 0x1000_0105, &shift, 64)?, Ok(64));
+    assert_eq!(rt; ball_and(&rt, 0x1000_0109, &shift, 65)?, Err((11, 262)));
     Ok(())
 }

@@ -1,8 +1,6 @@
 //! Surfaces: truncated, of wrong sizes, and over buffers that are too short.
-use crate::files::{cut, file_of, with};
-use readers::surface::SurfaceReadFault;
+use crate::files::{Answer, cut, file_of, number_and_place, with};
 use readers::surface::reads::read_surface;
-use refusal::Refusal;
 use std::process::Abort;
 use std::test::*;
 use words::reader::Reader;
@@ -16,12 +14,11 @@ const SURFACE: [u32; 5] = [
     0x2000_ffff,
 ];
 
-/// The number and the place of a refused surface, or (0, 0).
-fn told(bytes: &[u8], buffer: &mut [i16]) -> (u32, u32) {
-    let mut from = Reader::new(bytes);
-    match read_surface(&mut from, buffer) {
-        Ok(_) => (0, 0),
-        Err(fault) => (fault.number(), fault.place()),
+/// Whether a surface is read, or else the number and the place of its refusal.
+fn told(bytes: &[u8], buffer: &mut [i16]) -> Answer<()> {
+    match read_surface(&mut Reader::new(bytes), buffer) {
+        Ok(_) => Ok(()),
+        Err(fault) => Err(number_and_place(&fault)),
     }
 }
 
@@ -29,7 +26,7 @@ fn told(bytes: &[u8], buffer: &mut [i16]) -> (u32, u32) {
 fn heights_go_to_the_caller(rt: HostRuntime) -> Result<(), Fail> {
     let file = file_of(rt.alloc(), &SURFACE)?;
     let mut heights = [7; 5];
-    assert_eq!(rt; told(&file, &mut heights), (0, 0));
+    assert_eq!(rt; told(&file, &mut heights), Ok(()));
     assert_eq!(rt; heights, [3, -32768, 32767, -1, 7]);
     Ok(())
 }
@@ -37,7 +34,7 @@ fn heights_go_to_the_caller(rt: HostRuntime) -> Result<(), Fail> {
 /// Cut at every byte.
 fn cut_everywhere(rt: &impl Abort, file: &[u8], heights: &mut [i16]) -> Result<(), Fail> {
     for n in 0..20 {
-        assert_eq!(rt; told(cut(file, n), heights), (1, n / 4));
+        assert_eq!(rt; told(cut(file, n), heights), Err((1, n / 4)));
     }
     Ok(())
 }
@@ -50,8 +47,8 @@ fn each_height(
     heights: &mut [i16],
 ) -> Result<(), Fail> {
     for place in 1..5 {
-        let file = with(rt.alloc(), &SURFACE, place, word)?;
-        assert_eq!(rt; told(&file, heights), (by, place));
+        let file = file_of(rt.alloc(), &with(SURFACE, place, word))?;
+        assert_eq!(rt; told(&file, heights), Err((by, place)));
     }
     Ok(())
 }
@@ -72,12 +69,12 @@ fn every_kind_at_every_place_of_a_surface(rt: HostRuntime) -> Result<(), Fail> {
     for place in 0..5 {
         for kind in 0..16 {
             let told_by_rule = match (place, kind) {
-                (0, 9) => (13, 0),
-                (0, _) => (2, 0),
-                (_, 2) => (0, 0),
-                _ => (2, place),
+                (0, 9) => Err((13, 0)),
+                (0, _) => Err((2, 0)),
+                (_, 2) => Ok(()),
+                _ => Err((2, place)),
             };
-            let file = with(rt.alloc(), &SURFACE, place, kind * 0x1000_0000)?;
+            let file = file_of(rt.alloc(), &with(SURFACE, place, kind * 0x1000_0000))?;
             let mut heights = [7; 4];
             assert_eq!(rt; told(&file, &mut heights), told_by_rule);
         }
@@ -86,28 +83,28 @@ fn every_kind_at_every_place_of_a_surface(rt: HostRuntime) -> Result<(), Fail> {
 }
 
 /// A start word in place of its own, over a buffer of four heights.
-fn start(rt: &HostRuntime, word: u32) -> Result<(u32, u32), Fail> {
-    let file = with(rt.alloc(), &SURFACE, 0, word)?;
+fn start(rt: &HostRuntime, word: u32) -> Result<Answer<()>, Fail> {
+    let file = file_of(rt.alloc(), &with(SURFACE, 0, word))?;
     let mut heights = [7; 4];
     Ok(told(&file, &mut heights))
 }
 
 #[test]
 fn sizes_come_before_the_buffer(rt: HostRuntime) -> Result<(), Fail> {
-    assert_eq!(rt; start(&rt, 0x9000_0002)?, (13, 0));
-    assert_eq!(rt; start(&rt, 0x9002_0000)?, (13, 0));
-    assert_eq!(rt; start(&rt, 0x9041_0001)?, (13, 0));
-    assert_eq!(rt; start(&rt, 0x9001_0041)?, (13, 0));
-    assert_eq!(rt; start(&rt, 0x9fff_ffff)?, (13, 0));
-    assert_eq!(rt; start(&rt, 0x9001_0005)?, (18, 0));
-    assert_eq!(rt; start(&rt, 0x9040_0040)?, (18, 0));
-    assert_eq!(rt; start(&rt, 0x8002_0002)?, (2, 0));
+    assert_eq!(rt; start(&rt, 0x9000_0002)?, Err((13, 0)));
+    assert_eq!(rt; start(&rt, 0x9002_0000)?, Err((13, 0)));
+    assert_eq!(rt; start(&rt, 0x9041_0001)?, Err((13, 0)));
+    assert_eq!(rt; start(&rt, 0x9001_0041)?, Err((13, 0)));
+    assert_eq!(rt; start(&rt, 0x9fff_ffff)?, Err((13, 0)));
+    assert_eq!(rt; start(&rt, 0x9001_0005)?, Err((18, 0)));
+    assert_eq!(rt; start(&rt, 0x9040_0040)?, Err((18, 0)));
+    assert_eq!(rt; start(&rt, 0x8002_0002)?, Err((2, 0)));
     Ok(())
 }
 
 #[test]
 fn the_kind_comes_before_the_sizes(rt: HostRuntime) -> Result<(), Fail> {
-    assert_eq!(rt; start(&rt, 0x8041_0001)?, (2, 0));
+    assert_eq!(rt; start(&rt, 0x8041_0001)?, Err((2, 0)));
     Ok(())
 }
 
@@ -115,9 +112,9 @@ fn the_kind_comes_before_the_sizes(rt: HostRuntime) -> Result<(), Fail> {
 fn the_buffer_comes_before_the_heights(rt: HostRuntime) -> Result<(), Fail> {
     let file = file_of(rt.alloc(), &[0x9002_0002, 0x3000_0000])?;
     let mut short = [7; 3];
-    assert_eq!(rt; told(&file, &mut short), (18, 0));
+    assert_eq!(rt; told(&file, &mut short), Err((18, 0)));
     let mut enough = [7; 4];
-    assert_eq!(rt; told(&file, &mut enough), (2, 1));
-    assert_eq!(rt; told(cut(&file, 4), &mut enough), (1, 1));
+    assert_eq!(rt; told(&file, &mut enough), Err((2, 1)));
+    assert_eq!(rt; told(cut(&file, 4), &mut enough), Err((1, 1)));
     Ok(())
 }
