@@ -84,9 +84,9 @@ fn greatest(heights: &[i16], columns: usize) -> i16
 {
     heights
         .iter()
-        .take(columns)
         .copied()
-        .fold(LOWEST_HEIGHT, |top, height| top.max(height))
+        .take(columns)
+        .fold(LOWEST_HEIGHT, i16::max)
 }
 
 /// A sheet of columns, each solid from its height down without end. Its heights are the caller's,

@@ -1,5 +1,4 @@
-use Rattle.std.proofs.Common.{◌≡◌, true, arith, rules}
-use borrow.Author.Differences.{ints}
+use Rattle.std.proofs.Common.{arith, rules}
 use Rattle.std.proofs.lemmas.Grind.{common_steps}
 use Rattle.leaves.specs.Made.{point_ranged, ranged}
 use Rattle.leaves.proofs.fault.check_point.Goals as goal

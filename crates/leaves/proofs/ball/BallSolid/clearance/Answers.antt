@@ -1,8 +1,6 @@
-use Rattle.std.proofs.Common.{◌≡◌, rules}
-use borrow.Author.Differences.{ints}
-use Rattle.lattice.specs.Space.{gap, In}
+use Rattle.std.proofs.Common.{rules}
 use Rattle.solid.proofs.Asked.{within_in}
-use Rattle.geometry.proofs.Balls.{wide, ball_asked}
+use Rattle.geometry.proofs.Balls.{ball_asked}
 use Rattle.leaves.proofs.ball.BallSolid.clearance.Goals as goal
 
 pub offsets-requires : goal.offsets-requires
