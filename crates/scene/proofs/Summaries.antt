@@ -1,5 +1,6 @@
 -- What is known of the bodies that stand, by a stack of their summaries.
-use Rattle.std.proofs.Common.{◌≡◌, ℕ, zero, suc, ◌+◌, ◌-◌, ◌<◌, ◌≤◌, false, ◌≢◌, List, [], ◌∷◌, map, length, get_or, drop, set, Ok, Err, sym, refl, ap, ◌∙◌, arith}
+use Rattle.std.proofs.Common.{◌≡◌, ℕ, zero, suc, ◌+◌, ◌-◌, ◌<◌, ◌≤◌, Bool, false, ◌≢◌, List, [], ◌∷◌, map, length, get_or, take, drop, set, MatchResult, Ok, Err, Result, sym, refl, ap, ap₂, ◌∙◌, arith}
+use Rattle.std.proofs.lemmas.List.{get_or-take, length-take-le}
 use Rattle.solid.specs.Body.{Body}
 use Rattle.scene.specs.declared.node.Summary.{Summary}
 use Rattle.scene.specs.declared.draft.DraftFault.{DraftFault}
@@ -63,26 +64,56 @@ module _ (s : List Body) (ms : List Summary) (h : ℕ) (e : map summed s ≡ sta
   unfolding gathered
   only_read f = sym (only_is s _ (e ∙ ap (stacked ms) f))
 
--- where too few stand
-pub no_last : (s : List Body) → length s < 1 → Err TooFew ≡ last_of s
-no_last [] l = refl
-no_last (a ∷ s) l = absurd (omega arith)
+-- the same of the slice that shows the summaries, and where it has too few
+module _ (s : List Body) (ms xs : List Summary) (h : ℕ) (e : map summed s ≡ stacked ms h) (room : h ≤ length ms) (f : xs ≡ take h ms) where
+  shown : length xs ≡ h
+  shown = ap length f ∙ length-take-le h ms room
 
-pub no_two : (s : List Body) → length s < 2 → Err TooFew ≡ last_two s
-no_two [] l = refl
-no_two (b ∷ []) l = refl
-no_two (b ∷ (a ∷ s)) l = absurd (omega arith)
+  at : (k j : ℕ) → k ≡ j → k < h → get_or xs k no_summary ≡ get_or ms j no_summary
+  at k j p l = ap (λ ys. get_or ys k no_summary) f ∙ get_or-take h ms k no_summary l ∙ ap (λ i. get_or ms i no_summary) p
 
-pub not_only : (s : List Body) → length s ≢ 1 → Err Unfinished ≡ only s
-not_only [] n = refl
-not_only (b ∷ []) n = absurd (n refl)
-not_only (b ∷ (a ∷ s)) n = refl
+  pub last_shown : 1 ≤ length xs → Ok (get_or xs (length xs - 1) no_summary) ≡ last_of s
+  last_shown l =
+      let n = shown in
+      ap Ok (at (length xs - 1) (h - 1) (omega arith) (omega arith)) ∙ last_read s ms h e (omega arith)
+
+  pub two_shown : 2 ≤ length xs → Ok (get_or xs (length xs - 2) no_summary, get_or xs (length xs - 1) no_summary) ≡ last_two s
+  two_shown l =
+      let n = shown in
+      ap₂ (λ x y. Ok (x, y)) (at (length xs - 2) (h - 2) (omega arith) (omega arith)) (at (length xs - 1) (h - 1) (omega arith) (omega arith)) ∙ two_read s ms h e (omega arith)
+
+  pub only_shown : 1 ≤ length xs → length xs < 2 → Ok (get_or xs 0 no_summary) ≡ only s
+  only_shown l m =
+      let n = shown in
+      ap Ok (at 0 0 refl (omega arith)) ∙ only_read s ms h e (omega arith)
+
+  stand : length s ≡ length xs
+  stand = height s ms h e ∙ sym shown
+
+  pub no_last : length xs < 1 → Err TooFew ≡ last_of s
+  no_last l = let n = stand in none s (omega arith)
+    where
+      none : (t : List Body) → length t < 1 → Err TooFew ≡ last_of t
+      none [] b = refl
+      none (a ∷ t) b = absurd (omega arith)
+
+  pub no_two : length xs < 2 → Err TooFew ≡ last_two s
+  no_two l = let n = stand in none s (omega arith)
+    where
+      none : (t : List Body) → length t < 2 → Err TooFew ≡ last_two t
+      none [] b = refl
+      none (a ∷ []) b = refl
+      none (b ∷ (a ∷ t)) c = absurd (omega arith)
+
+  pub not_only : length xs ≢ 1 → Err Unfinished ≡ only s
+  not_only l = let n = stand in none s (λ p. l (sym n ∙ p))
+    where
+      none : (t : List Body) → length t ≢ 1 → Err Unfinished ≡ only t
+      none [] b = refl
+      none (a ∷ []) b = absurd (b refl)
+      none (b ∷ (a ∷ t)) c = refl
 
 -- whether the last one is exact
-pub exact_known : (s : List Body) (x : Summary) → Ok x ≡ last_of s → x.exact ≡ last_exact s
-exact_known [] x e = let z : ◌≡◌ {A = ℕ} 0 1 = cc in absurd (omega arith)
-exact_known (a ∷ s) x e = let f : x ≡ summed a = cc in ap (λ (y : Summary). y.exact) f
-
-pub exact_unknown : (s : List Body) (e : DraftFault) → Err e ≡ last_of s → false ≡ last_exact s
-exact_unknown [] e f = refl
-exact_unknown (a ∷ s) e f = let z : ◌≡◌ {A = ℕ} 0 1 = cc in absurd (omega arith)
+pub exactness : (s : List Body) (r : Result Summary DraftFault) (b : Bool) (P : Summary → Type 0) → ((x : Summary) → P x → b ≡ x.exact) → r ≡ last_of s → MatchResult r P (λ _. b ≡ false) → b ≡ last_exact s
+exactness [] r b P f e m = rw e at m
+exactness (a ∷ s) r b P f e m = f (summed a) (rw e at m)
