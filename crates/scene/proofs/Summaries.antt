@@ -9,15 +9,12 @@ use Rattle.scene.specs.Standing.{gathered, summed, last_exact, no_summary, stack
 use Rattle.scene.specs.Known.{last_of, last_two, only}
 use Rattle.scene.proofs.Gathers.{gathered_last, gathered_push}
 
-unlike : {A : Type 0} (x : A) (xs : List A) → [] ≡ x ∷ xs → ⊥
-unlike x xs e = let z : ◌≡◌ {A = ℕ} 0 1 = cc in omega arith
-
 -- as many bodies stand as there are summaries
 pub height : (s : List Body) (ms : List Summary) (h : ℕ) → map summed s ≡ stacked ms h → length s ≡ h
 unfolding gathered
 height [] ms zero e = refl
-height [] ms (suc h) e = absurd (unlike _ _ e)
-height (a ∷ s) ms zero e = absurd (unlike _ _ (sym e))
+height [] ms (suc h) e = cc
+height (a ∷ s) ms zero e = cc
 height (a ∷ s) ms (suc h) e = ap suc (height s ms h (cc))
 
 -- without the last k
@@ -25,7 +22,7 @@ dropped : (k : ℕ) (s : List Body) (ms : List Summary) (h : ℕ) → map summed
 unfolding gathered
 dropped zero s ms h e l = let z : h ≡ h - 0 = omega arith in e ∙ ap (stacked ms) z
 dropped (suc k) s ms zero e l = absurd (omega arith)
-dropped (suc k) [] ms (suc h) e l = absurd (unlike _ _ e)
+dropped (suc k) [] ms (suc h) e l = cc
 dropped (suc k) (a ∷ s) ms (suc h) e l = let z : h - k ≡ suc h - suc k = omega arith in dropped k s ms h (cc) (omega arith) ∙ ap (stacked ms) z
 
 -- a node that takes the last k leaves its own summary above the others
@@ -34,19 +31,19 @@ tallied s t ms h k x e l m right = right ∙ ap (λ r. x ∷ r) (dropped k s ms 
 
 -- the last one
 first_is : (s : List Body) (x : Summary) (t : List Summary) → map summed s ≡ x ∷ t → last_of s ≡ Ok x
-first_is [] x t e = absurd (unlike _ _ e)
+first_is [] x t e = cc
 first_is (a ∷ s) x t e = let f : summed a ≡ x = cc in ap Ok f
 
 -- the last two
 both_are : (s : List Body) (x y : Summary) (t : List Summary) → map summed s ≡ y ∷ (x ∷ t) → last_two s ≡ Ok (x, y)
-both_are [] x y t e = absurd (unlike _ _ e)
-both_are (b ∷ []) x y t e = let f : [] ≡ x ∷ t = cc in absurd (unlike _ _ f)
+both_are [] x y t e = cc
+both_are (b ∷ []) x y t e = cc
 both_are (b ∷ (a ∷ s)) x y t e = let f : summed b ≡ y = cc in let g : summed a ≡ x = cc in λ i. Ok (g i, f i)
 
 only_is : (s : List Body) (x : Summary) → map summed s ≡ x ∷ [] → only s ≡ Ok x
-only_is [] x e = absurd (unlike _ _ e)
+only_is [] x e = cc
 only_is (b ∷ []) x e = let f : summed b ≡ x = cc in ap Ok f
-only_is (b ∷ (a ∷ s)) x e = let f : [] ≡ summed a ∷ map summed s = cc in absurd (unlike _ _ f)
+only_is (b ∷ (a ∷ s)) x e = cc
 
 module _ (s : List Body) (ms : List Summary) (h : ℕ) (e : map summed s ≡ stacked ms h) where
   one : 1 ≤ h → map summed s ≡ get_or ms (h - 1) no_summary ∷ stacked ms (h - 1)

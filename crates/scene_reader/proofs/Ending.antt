@@ -19,7 +19,7 @@ ending count s old b r e = subst (λ (z : Result Unit DraftFault × Body). held 
 
 -- what was left as it was by a refusal of the fill is so by the refusal at a place
 pub left : (count : ℕ) (r : Result Unit DraftFault) (e : SceneFault) (P : Type 0) → at count r ≡ Err e → IfErr r (λ _. P) → P
-left count (Ok u) e P h p = absurd (let z : ◌≡◌ {A = ℕ} 0 1 = cc in omega arith)
+left count (Ok u) e P h p = absurd cc
 left count (Err f) e P h p = p
 
 module _ (bs : List ℕ) where

@@ -16,12 +16,10 @@ use words::fault::WordFault;
 use words::kind::Kind as Word;
 use words::reader::Reader;
 
-/// How many words a scene has after its start word, and the most nodes.
+/// How many words a scene has after its start word.
 const LEAST_WORDS: u32 = 1;
 
 const MOST_WORDS: u32 = 1792;
-
-const MOST_NODES: usize = 256;
 /// The range of centres and corners.
 const LEAST_COORDINATE: i32 = -16_384;
 
@@ -57,9 +55,7 @@ fn check(draft: &Draft, kind: Kind, place: usize, count: usize) -> Result<(), Sc
     ensures { result ≡ checked count place (state draft.now).0 kind (state draft.now).1 }
 {
     let refused = |fault| Err(SceneFault::Node { fault, place });
-    if draft.nodes() >= MOST_NODES {
-        return refused(DraftFault::Full);
-    }
+    at(place, draft.check_room())?;
     if place + kind.numbers() > count {
         return Err(SceneFault::Numbers { place });
     }

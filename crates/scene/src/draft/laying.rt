@@ -55,7 +55,8 @@ impl Draft {
         self.last().is_ok_and(|last| last.exact)
     }
 
-    fn check_room(&self) -> Result<(), DraftFault>
+    /// Checks that there is room for one node more.
+    pub fn check_room(&self) -> Result<(), DraftFault>
         ensures { result ≡ room (state self.now).0 }
     {
         if self.nodes() >= MOST_NODES {

@@ -12,7 +12,7 @@ pub returns-in_err-kind : goal.returns-in_err-kind
 returns-in_err-kind c =
     let b : bare_at (text c.args.from.now) (place c.args.from.now) 3 8 ≡ Ok c.in_ok-number.number = search rules in
     let m = mapped c.try_from.result c.map_err.result (kind_of c.in_ok-number.number) _ (c.try_from.ensures ∙ node_word _ _ _ b) c.map_err.ensures.cases in
-    absurd (let z : ◌≡◌ {A = ℕ} 0 1 = cc (m, c.in_err-kind.was) in omega arith)
+    absurd (cc (m, c.in_err-kind.was))
 
 pub lay-requires : goal.lay-requires
 lay-requires c =
