@@ -1,5 +1,5 @@
 -- The end of a scene.
-use Rattle.std.proofs.Common.{◌≡◌, ℕ, List, [], ◌∷◌, IfErr, Ok, Err, Result, sym, refl, subst, arith}
+use Rattle.std.proofs.Common.{◌≡◌, ℕ, List, [], ◌∷◌, IfErr, Ok, Err, Result, sym, refl, subst}
 use Rattle.solid.specs.Body.{Body}
 use Rattle.scene.specs.declared.draft.DraftFault.{DraftFault}
 use Rattle.scene.specs.Scenes.{filled}

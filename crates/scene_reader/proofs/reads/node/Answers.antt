@@ -1,9 +1,9 @@
-use Rattle.std.proofs.Common.{◌≡◌, ℕ, ◌+◌, IfOk, Ok, sym, ◌∙◌, subst, arith, rules}
+use Rattle.std.proofs.Common.{◌≡◌, ◌+◌, IfOk, Ok, sym, ◌∙◌, subst, arith, rules}
 use Rattle.words.specs.Cursor.{text, place}
 use Rattle.words.specs.Reading.{held, bare_at}
 use Rattle.scene.specs.States.{state}
 use Rattle.scene_reader.specs.Kinds.{kind_of, numbers}
-use Rattle.scene_reader.specs.Scenes.{checked, laid, node_at}
+use Rattle.scene_reader.specs.Scenes.{checked, laid}
 use Rattle.scene_reader.proofs.Named.{node_word, mapped}
 use Rattle.scene_reader.proofs.Laying.{passes, joined, node_is, made_on}
 use Rattle.scene_reader.proofs.reads.node.Goals as goal

@@ -1,5 +1,4 @@
-use Rattle.std.proofs.Common.{◌≡◌, ◌-◌, ◌<◌, ◌≤◌, map, length, ap, ◌∙◌, arith, rules}
-use Rattle.scene.specs.Standing.{summed}
+use Rattle.std.proofs.Common.{◌≡◌, ◌-◌, ◌<◌, ◌≤◌, length, arith, rules}
 use Rattle.scene.proofs.Summaries.{height, tallied}
 use Rattle.scene.proofs.draft.Draft.put.Goals as goal
 

@@ -1,4 +1,4 @@
-use Rattle.std.proofs.Common.{◌≡◌, ◌<◌, ◌≢◌, length, set, ◌∙◌, ap₂, arith, get_or-set_other, get_or-set_same, below_more}
+use Rattle.std.proofs.Common.{◌<◌, ◌≢◌, length, ◌∙◌, ap₂, arith, get_or-set_other, get_or-set_same, below_more}
 use Rattle.scene.specs.declared.node.Join.TheVariants.{Unite}
 use Rattle.scene.specs.declared.node.Node.TheVariants.{Joined}
 use Rattle.scene.specs.Standing.{step, fits}
