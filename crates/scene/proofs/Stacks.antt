@@ -1,7 +1,9 @@
 -- The last body that stands once a node more is laid down, and those before it.
-use Rattle.std.proofs.Common.{◌≡◌, ℕ, zero, suc, ◌-◌, ◌≤◌, min, true, List, [], ◌∷◌, Ok, sym, refl, ap, ◌∙◌, subst, arith}
+use Rattle.std.proofs.Common.{◌≡◌, ℕ, zero, suc, ◌-◌, ◌≤◌, min, true, List, [], ◌∷◌, ℤ, nat_abs, FitsSigned, SomeIff, Option, Some, None, Ok, sym, refl, ap, ◌∙◌, subst, arith}
 use Rattle.std.proofs.lemmas.Bool.{false≢true, leb-true}
-use Rattle.lattice.specs.Space.{norm, In, back}
+use Rattle.std.proofs.lemmas.Int.{fits_signed_from_abs}
+use Rattle.std.specs.Int.{w32}
+use Rattle.lattice.specs.Space.{norm, In, back, Held}
 use Rattle.lattice.specs.declared.Point.{Point}
 use Rattle.lattice.proofs.Distance.{in_less}
 use Rattle.solid.specs.Body.{Body}
@@ -10,9 +12,11 @@ use Rattle.solid.proofs.Asked.{answer_in}
 use Rattle.geometry.specs.Layers.{moved, shift, thick, thicken}
 use Rattle.geometry.proofs.Kept.{in_back}
 use Rattle.geometry.proofs.Piles.{shift_is, thicken_is}
+use Rattle.scene.specs.declared.node.Join.{Join}
+use Rattle.scene.specs.declared.node.Join.TheVariants.{Unite, Meet}
 use Rattle.scene.specs.declared.node.Node.{Node}
 use Rattle.scene.specs.declared.node.Node.TheVariants.{Shift, Thicken}
-use Rattle.scene.specs.Standing.{gathered, on_two, on_one, standing, some, rest, two, top, fits}
+use Rattle.scene.specs.Standing.{joined, joined_clear, gathered, on_two, on_one, standing, some, rest, two, top, fits}
 use Rattle.scene.specs.Laws.{standing_lawful, top_lawful}
 
 -- where something stands, a node was laid down
@@ -50,34 +54,44 @@ leaf_asked b s t p c made told i =
     let f : c ≡ b.clear p = cc in
     f ∙ sym (ap (λ u. (top u).clear p) made)
 
+-- what two bodies become, by each way of joining them
+joined_reach : (j : Join) (a b : Body) → (joined j a b).reach ≡ min a.reach b.reach
+joined_reach Unite a b = refl
+joined_reach Meet a b = refl
+
+joined_at : (j : Join) (a b : Body) (p : Point) → (joined j a b).clear p ≡ joined_clear j (a.clear p) (b.clear p)
+joined_at Unite a b p = refl
+joined_at Meet a b p = refl
+
 -- What a node that takes bodies asks of them at p. Before it, s stood, and with it t does.
-pub record TakesTwo (f : Body → Body → Body) (s t : List Body) (p : Point) : Type 0 where
+pub record TakesTwo (j : Join) (s t : List Body) (p : Point) : Type 0 where
   pub stands : some s ≡ true
   pub right : In (top s).reach p
   pub left : In (top (rest s)).reach p
-  pub clear : (top t).clear p ≡ (f (top (rest s)) (top s)).clear p
+  pub clear : (top t).clear p ≡ joined_clear j ((top (rest s)).clear p) ((top s).clear p)
   pub before : rest t ≡ rest (rest s)
 
-pub takes_two : (f : Body → Body → Body) → ((a b : Body) → (f a b).reach ≡ min a.reach b.reach) → (s t : List Body) → t ≡ on_two f s → two s ≡ true → (p : Point) → In (top t).reach p → TakesTwo f s t p
-takes_two f least s t made fit p i = record {
+pub takes_two : (j : Join) (s t : List Body) → t ≡ on_two (joined j) s → two s ≡ true → (p : Point) → In (top t).reach p → TakesTwo j s t p
+takes_two j s t made fit p i = record {
   stands = two_some s fit;
   right = in_less (top t).reach (top s).reach p (omega (arith, reach)) i;
   left = in_less (top t).reach (top (rest s)).reach p (omega (arith, reach)) i;
-  clear = ap (λ (b : Body). b.clear p) is;
-  before = ap rest made ∙ two_rest f s;
+  clear = ap (λ (b : Body). b.clear p) is ∙ joined_at j (top (rest s)) (top s) p;
+  before = ap rest made ∙ two_rest (joined j) s;
 }
   where
-    is : top t ≡ f (top (rest s)) (top s)
-    is = ap top made ∙ two_top f s fit
+    is : top t ≡ joined j (top (rest s)) (top s)
+    is = ap top made ∙ two_top (joined j) s fit
 
     reach : (top t).reach ≡ min (top (rest s)).reach (top s).reach
-    reach = ap (λ (b : Body). b.reach) is ∙ least (top (rest s)) (top s)
+    reach = ap (λ (b : Body). b.reach) is ∙ joined_reach j (top (rest s)) (top s)
 
 pub record Shifts (v : Point) (s t : List Body) (p : Point) : Type 0 where
   pub stands : some s ≡ true
   pub short : norm v ≤ (top s).reach
   pub near : In ((top s).reach - norm v) p
   pub below : In (top s).reach (back v p)
+  pub held : Held (back v p)
   pub clear : (top t).clear p ≡ (top s).clear (back v p)
   pub before : rest t ≡ rest s
 
@@ -85,12 +99,25 @@ shift_fit : (v : Point) (s : List Body) → fits (Shift v) s ≡ true → (some 
 shift_fit v [] h = absurd (false≢true h)
 shift_fit v (a ∷ s) h = (refl, leb-true _ _ h)
 
-pub shifts : (v : Point) (s t : List Body) → t ≡ on_one (shift v) s → fits (Shift v) s ≡ true → (p : Point) → In (top t).reach p → Shifts v s t p
-shifts v s t made fit p i = record {
+-- where each part is within a leaf's reach, 32 bits hold it
+held : (q : Point) (r : ℕ) → r ≤ 1048576 → In r q → Held q
+held q r l i = (part q.x i.0, part q.y i.1, part q.z i.2)
+  where
+    part : (z : ℤ) → nat_abs z ≤ r → FitsSigned w32 z
+    part z m = fits_signed_from_abs w32 z (omega arith)
+
+-- so that there is a point from which the offset leads
+pub found : (r : Option Point) (P : Type 0) (q : Point) → SomeIff r P q → P → r ≡ Some q
+found None P q n h = absurd (n h)
+found (Some x) P q e h = ap Some e.1
+
+pub shifts : (v : Point) (s t : List Body) → (top s).reach ≤ 1048576 → t ≡ on_one (shift v) s → fits (Shift v) s ≡ true → (p : Point) → In (top t).reach p → Shifts v s t p
+shifts v s t far made fit p i = record {
   stands = (shift_fit v s fit).0;
   short = short;
   near = near;
   below = in_back (top s).reach v p short near;
+  held = held (back v p) (top s).reach far (in_back (top s).reach v p short near);
   clear = ap (λ (b : Body). b.clear p) is;
   before = ap rest made ∙ one_rest (shift v) s;
 }

@@ -1,5 +1,6 @@
 -- What is known of the bodies that stand, by a stack of their summaries.
-use Rattle.std.proofs.Common.{◌≡◌, ℕ, zero, suc, ◌+◌, ◌-◌, ◌<◌, ◌≤◌, false, ◌≢◌, List, [], ◌∷◌, map, length, get_or, drop, set, Ok, Err, sym, refl, ap, ◌∙◌, arith}
+use Rattle.std.proofs.Common.{◌≡◌, ℕ, zero, suc, ◌+◌, ◌-◌, ◌<◌, ◌≤◌, Bool, false, ◌≢◌, List, [], ◌∷◌, map, length, get_or, take, drop, set, MatchResult, Ok, Err, Result, sym, refl, ap, ap₂, ◌∙◌, arith}
+use Rattle.std.proofs.lemmas.List.{get_or-take, length-take-le}
 use Rattle.solid.specs.Body.{Body}
 use Rattle.scene.specs.declared.node.Summary.{Summary}
 use Rattle.scene.specs.declared.draft.DraftFault.{DraftFault}
@@ -8,15 +9,12 @@ use Rattle.scene.specs.Standing.{gathered, summed, last_exact, no_summary, stack
 use Rattle.scene.specs.Known.{last_of, last_two, only}
 use Rattle.scene.proofs.Gathers.{gathered_last, gathered_push}
 
-unlike : {A : Type 0} (x : A) (xs : List A) → [] ≡ x ∷ xs → ⊥
-unlike x xs e = let z : ◌≡◌ {A = ℕ} 0 1 = cc in omega arith
-
 -- as many bodies stand as there are summaries
 pub height : (s : List Body) (ms : List Summary) (h : ℕ) → map summed s ≡ stacked ms h → length s ≡ h
 unfolding gathered
 height [] ms zero e = refl
-height [] ms (suc h) e = absurd (unlike _ _ e)
-height (a ∷ s) ms zero e = absurd (unlike _ _ (sym e))
+height [] ms (suc h) e = cc
+height (a ∷ s) ms zero e = cc
 height (a ∷ s) ms (suc h) e = ap suc (height s ms h (cc))
 
 -- without the last k
@@ -24,7 +22,7 @@ dropped : (k : ℕ) (s : List Body) (ms : List Summary) (h : ℕ) → map summed
 unfolding gathered
 dropped zero s ms h e l = let z : h ≡ h - 0 = omega arith in e ∙ ap (stacked ms) z
 dropped (suc k) s ms zero e l = absurd (omega arith)
-dropped (suc k) [] ms (suc h) e l = absurd (unlike _ _ e)
+dropped (suc k) [] ms (suc h) e l = cc
 dropped (suc k) (a ∷ s) ms (suc h) e l = let z : h - k ≡ suc h - suc k = omega arith in dropped k s ms h (cc) (omega arith) ∙ ap (stacked ms) z
 
 -- a node that takes the last k leaves its own summary above the others
@@ -33,19 +31,19 @@ tallied s t ms h k x e l m right = right ∙ ap (λ r. x ∷ r) (dropped k s ms 
 
 -- the last one
 first_is : (s : List Body) (x : Summary) (t : List Summary) → map summed s ≡ x ∷ t → last_of s ≡ Ok x
-first_is [] x t e = absurd (unlike _ _ e)
+first_is [] x t e = cc
 first_is (a ∷ s) x t e = let f : summed a ≡ x = cc in ap Ok f
 
 -- the last two
 both_are : (s : List Body) (x y : Summary) (t : List Summary) → map summed s ≡ y ∷ (x ∷ t) → last_two s ≡ Ok (x, y)
-both_are [] x y t e = absurd (unlike _ _ e)
-both_are (b ∷ []) x y t e = let f : [] ≡ x ∷ t = cc in absurd (unlike _ _ f)
+both_are [] x y t e = cc
+both_are (b ∷ []) x y t e = cc
 both_are (b ∷ (a ∷ s)) x y t e = let f : summed b ≡ y = cc in let g : summed a ≡ x = cc in λ i. Ok (g i, f i)
 
 only_is : (s : List Body) (x : Summary) → map summed s ≡ x ∷ [] → only s ≡ Ok x
-only_is [] x e = absurd (unlike _ _ e)
+only_is [] x e = cc
 only_is (b ∷ []) x e = let f : summed b ≡ x = cc in ap Ok f
-only_is (b ∷ (a ∷ s)) x e = let f : [] ≡ summed a ∷ map summed s = cc in absurd (unlike _ _ f)
+only_is (b ∷ (a ∷ s)) x e = cc
 
 module _ (s : List Body) (ms : List Summary) (h : ℕ) (e : map summed s ≡ stacked ms h) where
   one : 1 ≤ h → map summed s ≡ get_or ms (h - 1) no_summary ∷ stacked ms (h - 1)
@@ -63,26 +61,56 @@ module _ (s : List Body) (ms : List Summary) (h : ℕ) (e : map summed s ≡ sta
   unfolding gathered
   only_read f = sym (only_is s _ (e ∙ ap (stacked ms) f))
 
--- where too few stand
-pub no_last : (s : List Body) → length s < 1 → Err TooFew ≡ last_of s
-no_last [] l = refl
-no_last (a ∷ s) l = absurd (omega arith)
+-- the same of the slice that shows the summaries, and where it has too few
+module _ (s : List Body) (ms xs : List Summary) (h : ℕ) (e : map summed s ≡ stacked ms h) (room : h ≤ length ms) (f : xs ≡ take h ms) where
+  shown : length xs ≡ h
+  shown = ap length f ∙ length-take-le h ms room
 
-pub no_two : (s : List Body) → length s < 2 → Err TooFew ≡ last_two s
-no_two [] l = refl
-no_two (b ∷ []) l = refl
-no_two (b ∷ (a ∷ s)) l = absurd (omega arith)
+  at : (k j : ℕ) → k ≡ j → k < h → get_or xs k no_summary ≡ get_or ms j no_summary
+  at k j p l = ap (λ ys. get_or ys k no_summary) f ∙ get_or-take h ms k no_summary l ∙ ap (λ i. get_or ms i no_summary) p
 
-pub not_only : (s : List Body) → length s ≢ 1 → Err Unfinished ≡ only s
-not_only [] n = refl
-not_only (b ∷ []) n = absurd (n refl)
-not_only (b ∷ (a ∷ s)) n = refl
+  pub last_shown : 1 ≤ length xs → Ok (get_or xs (length xs - 1) no_summary) ≡ last_of s
+  last_shown l =
+      let n = shown in
+      ap Ok (at (length xs - 1) (h - 1) (omega arith) (omega arith)) ∙ last_read s ms h e (omega arith)
+
+  pub two_shown : 2 ≤ length xs → Ok (get_or xs (length xs - 2) no_summary, get_or xs (length xs - 1) no_summary) ≡ last_two s
+  two_shown l =
+      let n = shown in
+      ap₂ (λ x y. Ok (x, y)) (at (length xs - 2) (h - 2) (omega arith) (omega arith)) (at (length xs - 1) (h - 1) (omega arith) (omega arith)) ∙ two_read s ms h e (omega arith)
+
+  pub only_shown : 1 ≤ length xs → length xs < 2 → Ok (get_or xs 0 no_summary) ≡ only s
+  only_shown l m =
+      let n = shown in
+      ap Ok (at 0 0 refl (omega arith)) ∙ only_read s ms h e (omega arith)
+
+  stand : length s ≡ length xs
+  stand = height s ms h e ∙ sym shown
+
+  pub no_last : length xs < 1 → Err TooFew ≡ last_of s
+  no_last l = let n = stand in none s (omega arith)
+    where
+      none : (t : List Body) → length t < 1 → Err TooFew ≡ last_of t
+      none [] b = refl
+      none (a ∷ t) b = absurd (omega arith)
+
+  pub no_two : length xs < 2 → Err TooFew ≡ last_two s
+  no_two l = let n = stand in none s (omega arith)
+    where
+      none : (t : List Body) → length t < 2 → Err TooFew ≡ last_two t
+      none [] b = refl
+      none (a ∷ []) b = refl
+      none (b ∷ (a ∷ t)) c = absurd (omega arith)
+
+  pub not_only : length xs ≢ 1 → Err Unfinished ≡ only s
+  not_only l = let n = stand in none s (λ p. l (sym n ∙ p))
+    where
+      none : (t : List Body) → length t ≢ 1 → Err Unfinished ≡ only t
+      none [] b = refl
+      none (a ∷ []) b = absurd (b refl)
+      none (b ∷ (a ∷ t)) c = refl
 
 -- whether the last one is exact
-pub exact_known : (s : List Body) (x : Summary) → Ok x ≡ last_of s → x.exact ≡ last_exact s
-exact_known [] x e = let z : ◌≡◌ {A = ℕ} 0 1 = cc in absurd (omega arith)
-exact_known (a ∷ s) x e = let f : x ≡ summed a = cc in ap (λ (y : Summary). y.exact) f
-
-pub exact_unknown : (s : List Body) (e : DraftFault) → Err e ≡ last_of s → false ≡ last_exact s
-exact_unknown [] e f = refl
-exact_unknown (a ∷ s) e f = let z : ◌≡◌ {A = ℕ} 0 1 = cc in absurd (omega arith)
+pub exactness : (s : List Body) (r : Result Summary DraftFault) (b : Bool) (P : Summary → Type 0) → ((x : Summary) → P x → b ≡ x.exact) → r ≡ last_of s → MatchResult r P (λ _. b ≡ false) → b ≡ last_exact s
+exactness [] r b P f e m = rw e at m
+exactness (a ∷ s) r b P f e m = f (summed a) (rw e at m)

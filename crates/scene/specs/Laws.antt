@@ -1,13 +1,15 @@
 -- Every body that stands is lawful, whatever nodes are laid down.
 use Rattle.std.specs.Prelude.{ℕ, zero, suc, List, [], ◌∷◌, slice_index_or}
 use Rattle.solid.specs.Body.{Body, Lawful}
-use Rattle.geometry.specs.Layers.{unite, meet, shift, thicken}
+use Rattle.geometry.specs.Layers.{shift, thicken}
 use Rattle.geometry.proofs.Balls.{ball_lawful}
 use Rattle.geometry.proofs.Boxes.{block_lawful}
 use Rattle.geometry.proofs.Kept.{unite_lawful, meet_lawful, shift_lawful, thicken_lawful}
 use Rattle.scene.specs.declared.node.Node.{Node}
-use Rattle.scene.specs.declared.node.Node.TheVariants.{Unite, Meet, Ball, Block, Shift, Thicken}
-use Rattle.scene.specs.Standing.{on_two, on_one, step, gathered, standing, origin, top}
+use Rattle.scene.specs.declared.node.Join.{Join}
+use Rattle.scene.specs.declared.node.Join.TheVariants.{Unite, Meet}
+use Rattle.scene.specs.declared.node.Node.TheVariants.{Joined, Ball, Block, Shift, Thicken}
+use Rattle.scene.specs.Standing.{joined, on_two, on_one, step, gathered, standing, origin, top}
 use Rattle.std.proofs.Common.{lit≤}
 
 abbrev pub AllLawful : List Body → Type 0
@@ -23,9 +25,12 @@ one_lawful : (f : Body → Body) → ((a : Body) → Lawful a → Lawful (f a)) 
 one_lawful f keeps [] l = l
 one_lawful f keeps (a ∷ s) l = (keeps a l.0, l.1)
 
+joined_lawful : (j : Join) (a b : Body) → Lawful a → Lawful b → Lawful (joined j a b)
+joined_lawful Unite a b k l = unite_lawful a b k l
+joined_lawful Meet a b k l = meet_lawful a b k l
+
 step_lawful : (n : Node) (s : List Body) → AllLawful s → AllLawful (step n s)
-step_lawful Unite s l = two_lawful unite unite_lawful s l
-step_lawful Meet s l = two_lawful meet meet_lawful s l
+step_lawful (Joined j) s l = two_lawful (joined j) (joined_lawful j) s l
 step_lawful (Ball b) s l = (ball_lawful b.centre b.radius b.near, l)
 step_lawful (Block b) s l = (block_lawful b.lo b.hi b.low b.high b.upright, l)
 step_lawful (Shift v) s l = one_lawful (shift v) (shift_lawful v) s l
@@ -34,7 +39,7 @@ step_lawful (Thicken h) s l = one_lawful (thicken h) (thicken_lawful h) s l
 pub standing_lawful : (ns : List Node) (n : ℕ) → AllLawful (standing ns n)
 unfolding gathered
 standing_lawful ns zero = tt
-standing_lawful ns (suc n) = step_lawful (slice_index_or ns n Unite) (standing ns n) (standing_lawful ns n)
+standing_lawful ns (suc n) = step_lawful (slice_index_or ns n (Joined Unite)) (standing ns n) (standing_lawful ns n)
 
 pub top_lawful : (s : List Body) → AllLawful s → Lawful (top s)
 top_lawful [] l = ball_lawful origin 0 (lit≤ tt, lit≤ tt, lit≤ tt)

@@ -1,14 +1,21 @@
 -- What stands as the nodes of a scene are laid down one by one. A node takes the last bodies that stand, as many as it wants, and
 -- what is made of them stands in their place. The last that stands comes first in these lists.
-use Rattle.std.specs.Prelude.{ℕ, zero, suc, Bool, true, false, List, [], ◌∷◌, pos, nat_le, slice_index_or}
+use Rattle.std.specs.Prelude.{ℕ, zero, suc, min, max, Bool, true, false, ◌&&◌, List, [], ◌∷◌, pos, nat_le, slice_index_or}
 use Rattle.lattice.specs.Space.{norm}
 use Rattle.lattice.specs.declared.Point.{Point}
 use Rattle.solid.specs.Body.{Body}
 use Rattle.geometry.specs.Leaves.{ball, block}
 use Rattle.geometry.specs.Layers.{unite, meet, shift, thicken}
+use Rattle.scene.specs.declared.node.Join.{Join}
+use Rattle.scene.specs.declared.node.Join.TheVariants.{Unite, Meet}
 use Rattle.scene.specs.declared.node.Node.{Node}
+use Rattle.scene.specs.declared.node.Node.TheVariants.{Joined, Ball, Block, Shift, Thicken}
 use Rattle.scene.specs.declared.node.Summary.{Summary}
-use Rattle.scene.specs.declared.node.Node.TheVariants.{Unite, Meet, Ball, Block, Shift, Thicken}
+
+-- what two bodies become
+abbrev pub joined : Join → Body → Body → Body
+joined Unite = unite
+joined Meet = meet
 
 -- the last two become one; the one laid down earlier is the left
 abbrev pub on_two : (Body → Body → Body) → List Body → List Body
@@ -23,8 +30,7 @@ on_one f (a ∷ s) = f a ∷ s
 
 -- what stands with one node more
 abbrev pub step : Node → List Body → List Body
-step Unite s = on_two unite s
-step Meet s = on_two meet s
+step (Joined j) s = on_two (joined j) s
 step (Ball b) s = ball b.centre b.radius ∷ s
 step (Block b) s = block b.lo b.hi ∷ s
 step (Shift v) s = on_one (shift v) s
@@ -37,7 +43,7 @@ gathered f z d xs (suc n) = f (slice_index_or xs n d) (gathered f z d xs n)
 
 -- what stands once n nodes of a table are laid down
 abbrev pub standing : List Node → ℕ → List Body
-standing ns n = gathered step [] Unite ns n
+standing ns n = gathered step [] (Joined Unite) ns n
 
 -- does a body stand, do two, and which is the last, and which are before it?
 abbrev pub some : List Body → Bool
@@ -60,8 +66,7 @@ top (a ∷ s) = a
 
 -- does a node find what it takes? A shift must not pass the reach, and what is thickened must be exact.
 abbrev pub fits : Node → List Body → Bool
-fits Unite s = two s
-fits Meet s = two s
+fits (Joined j) s = two s
 fits (Ball b) s = true
 fits (Block b) s = true
 fits (Shift v) [] = false
@@ -77,6 +82,15 @@ last_exact (a ∷ s) = a.exact
 -- what a draft keeps of a body that stands
 abbrev pub summed : Body → Summary
 summed b = record { reach = b.reach; exact = b.exact }
+
+-- what two bodies become has its clearance and its summary by theirs
+abbrev pub joined_clear : Join → ℕ → ℕ → ℕ
+joined_clear Unite m n = min m n
+joined_clear Meet m n = max m n
+
+abbrev pub joined_summary : Join → Summary → Summary → Summary
+joined_summary Unite a b = record { reach = min a.reach b.reach; exact = a.exact && b.exact }
+joined_summary Meet a b = record { reach = min a.reach b.reach; exact = false }
 
 -- the first n entries of a table of summaries, the last first
 abbrev pub no_summary : Summary

@@ -12,7 +12,7 @@ abbrev pub State : Type 0
 State = ℕ × List Body
 
 abbrev pub state : Draft → State
-state d = (d.table.count, standing d.table.nodes d.table.count)
+state d = (d.table.nodes.height, standing d.table.nodes.items d.table.nodes.height)
 
 -- what a call answers, and the state after it: a refusal leaves all as it was
 abbrev pub outcome : Laid → State → Result Unit DraftFault × State

@@ -11,7 +11,7 @@ use super::node::{Node, Summary};
 use super::table::Table;
 use lattice::Point;
 use leaves::ball::Ball;
-use solid::{QuestionFault, Solid};
+use solid::{QuestionFault, Solid, check_asked};
 
 impl Scene {
     /// The point at the origin, a ball of radius 0.
@@ -23,10 +23,7 @@ impl Scene {
         table.push(Node::Ball(point));
         Scene {
             table,
-            summary: Summary {
-                reach: point.reach(),
-                exact: true,
-            },
+            summary: Summary::of(&point),
         }
     }
 
@@ -62,10 +59,8 @@ impl Solid for Scene {
     }
 
     fn clearance(&self, p: Point) -> Result<u32, QuestionFault> {
-        if !p.within(self.reach()) {
-            return Err(QuestionFault::BeyondReach);
-        }
-        let (clear, _) = self.table.ask(self.table.count, p);
+        check_asked(self.reach(), p)?;
+        let (clear, _) = self.table.ask(self.table.count(), p);
         Ok(clear)
     }
 }

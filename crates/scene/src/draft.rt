@@ -7,10 +7,11 @@ ghost use Rattle.scene.specs.DraftTold.{draft_told};
 ghost use Rattle.scene.specs.declared.draft.DraftFault.TheVariants.{Leaf, Layer};
 
 use super::node::Summary;
+use super::stack::Stack;
 use super::table::{MOST_NODES, Table};
 use layers::LayerFault;
 use leaves::fault::LeafFault;
-use refusal::Refusal;
+use refusal::{Refusal, Rule};
 
 mod laying;
 
@@ -18,10 +19,9 @@ mod laying;
 #[derive(Drop)]
 pub struct Draft {
     pub(crate) table: Table,
-    summaries: [Summary; MOST_NODES],
-    height: usize,
-    ghost fewer: { height ≤ table.count },
-    ghost tally: { map summed (standing table.nodes table.count) ≡ stacked summaries height },
+    summaries: Stack<Summary, MOST_NODES>,
+    ghost fewer: { summaries.height ≤ table.nodes.height },
+    ghost tally: { map summed (standing table.nodes.items table.nodes.height) ≡ stacked summaries.items summaries.height },
 }
 
 /// Why a node is not laid down, or a draft is no scene.
@@ -41,23 +41,15 @@ pub enum DraftFault {
     Layer(LayerFault),
 }
 
-const FULL: u32 = 8;
-
-const TOO_FEW: u32 = 9;
-
-const INEXACT: u32 = 10;
-
-const UNFINISHED: u32 = 12;
-
 impl Refusal for DraftFault {
     ghost told = { draft_told };
 
     fn number(&self) -> u32 {
         match self {
-            DraftFault::Full => FULL,
-            DraftFault::TooFew => TOO_FEW,
-            DraftFault::Inexact => INEXACT,
-            DraftFault::Unfinished => UNFINISHED,
+            DraftFault::Full => Rule::Full.number(),
+            DraftFault::TooFew => Rule::TooFew.number(),
+            DraftFault::Inexact => Rule::Inexact.number(),
+            DraftFault::Unfinished => Rule::Unfinished.number(),
             DraftFault::Leaf(fault) => fault.number(),
             DraftFault::Layer(fault) => fault.number(),
         }

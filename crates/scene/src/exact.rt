@@ -4,7 +4,7 @@ ghost use Rattle.scene.specs.Standing.{standing, top};
 ghost use Rattle.scene.specs.ExactTold.{exact_told};
 
 use super::Scene;
-use refusal::Refusal;
+use refusal::{Refusal, Rule};
 
 pub mod filling;
 
@@ -12,7 +12,7 @@ pub mod filling;
 #[derive(Clone, Copy)]
 pub struct ExactScene {
     scene: Scene,
-    ghost marked: { (top (standing scene.table.nodes scene.table.count)).exact ≡ true },
+    ghost marked: { (top (standing scene.table.nodes.items scene.table.nodes.height)).exact ≡ true },
 }
 
 /// Why an exact scene is not filled.
@@ -22,14 +22,12 @@ pub enum ExactFault {
     Inexact,
 }
 
-const SCENE_INEXACT: u32 = 15;
-
 impl Refusal for ExactFault {
     ghost told = { exact_told };
 
     fn number(&self) -> u32 {
         match self {
-            ExactFault::Inexact => SCENE_INEXACT,
+            ExactFault::Inexact => Rule::Guard.number(),
         }
     }
 

@@ -11,6 +11,7 @@ pub mod answers;
 pub mod draft;
 pub mod exact;
 mod node;
+mod stack;
 mod table;
 
 /// A scene: the body that stands last once all nodes of its table are laid down. It is exact where
@@ -19,7 +20,7 @@ mod table;
 pub struct Scene {
     table: Table,
     summary: Summary,
-    ghost stands: { some (standing table.nodes table.count) ≡ true },
-    ghost far: { summary.reach ≡ (top (standing table.nodes table.count)).reach },
-    ghost sure: { summary.exact ≡ (top (standing table.nodes table.count)).exact },
+    ghost stands: { some (standing table.nodes.items table.nodes.height) ≡ true },
+    ghost far: { summary.reach ≡ (top (standing table.nodes.items table.nodes.height)).reach },
+    ghost sure: { summary.exact ≡ (top (standing table.nodes.items table.nodes.height)).exact },
 }

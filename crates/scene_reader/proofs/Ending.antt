@@ -1,5 +1,5 @@
 -- The end of a scene.
-use Rattle.std.proofs.Common.{◌≡◌, ℕ, List, [], ◌∷◌, IfErr, Ok, Err, Result, sym, refl, subst, arith}
+use Rattle.std.proofs.Common.{◌≡◌, ℕ, List, [], ◌∷◌, IfErr, Ok, Err, Result, sym, refl, subst}
 use Rattle.solid.specs.Body.{Body}
 use Rattle.scene.specs.declared.draft.DraftFault.{DraftFault}
 use Rattle.scene.specs.Scenes.{filled}
@@ -19,7 +19,7 @@ ending count s old b r e = subst (λ (z : Result Unit DraftFault × Body). held 
 
 -- what was left as it was by a refusal of the fill is so by the refusal at a place
 pub left : (count : ℕ) (r : Result Unit DraftFault) (e : SceneFault) (P : Type 0) → at count r ≡ Err e → IfErr r (λ _. P) → P
-left count (Ok u) e P h p = absurd (let z : ◌≡◌ {A = ℕ} 0 1 = cc in omega arith)
+left count (Ok u) e P h p = absurd cc
 left count (Err f) e P h p = p
 
 module _ (bs : List ℕ) where

@@ -1,3 +1,4 @@
+pub mod Named
 pub mod Laying
 pub mod Turns
 pub mod Ending

@@ -1,6 +1,7 @@
 -- Trees are read back as they were written.
-use Rattle.std.proofs.Common.{◌≡◌, ℕ, suc, ◌+◌, ◌-◌, ◌*◌, ◌<◌, ◌≤◌, Bool, true, false, ◌&&◌, ltb, leb, List, [], ◌∷◌, ◌++◌, length, get_or, ℤ, pos, negsuc, nat_abs, Ok, refl, ◌∙◌, arith, lit<, lit≤}
+use Rattle.std.proofs.Common.{◌≡◌, ℕ, suc, ◌+◌, ◌-◌, ◌*◌, ◌<◌, ◌≤◌, true, ltb, leb, List, [], ◌∷◌, ◌++◌, length, get_or, ℤ, pos, negsuc, nat_abs, Ok, refl, ◌∙◌, arith, lit<, lit≤}
 use Rattle.std.proofs.lemmas.List.{get_or_append_left, get_or-append-add, length-append}
+use Rattle.std.proofs.lemmas.Bool.{and_parts}
 use Rattle.std.proofs.lemmas.Int.{ints}
 use Rattle.std.proofs.lemmas.Bool.Decides.{nat_tests}
 use Rattle.lattice.specs.Space.{norm, within}
@@ -21,10 +22,6 @@ use Rattle.scene_reader.proofs.Laying.{node_is}
 use Rattle.scene_reader.proofs.Made.{ball_laid, box_laid, shift_laid, thicken_laid}
 use Rattle.scene_reader.proofs.Turns.{at_end, a_node}
 use Rattle.scene_reader.proofs.Ending.{a_scene}
-
-both : (a b : Bool) → (a && b) ≡ true → (a ≡ true) × (b ≡ true)
-both true b h = (refl, h)
-both false b h = absurd (let z : ◌≡◌ {A = ℕ} 0 1 = cc in omega arith)
 
 -- the words vs stand in ws from place k on
 abbrev At : List ℕ → ℕ → List ℕ → Type 0
@@ -67,7 +64,7 @@ module _ (ws rest : List ℕ) (count : ℕ) (room : count < length ws) where
   laid_ball : (k r : ℕ) (p : Point) (s : List Body) → At ws k (words_of (Ball p r)) → k + 4 ≤ count → sound (Ball p r) ≡ true → laid bs k kind.Ball s ≡ Ok (body_of (Ball p r) ∷ s)
   unfolding bs laid sound words_of body_of
   laid_ball k r p s at h o =
-      let w = both (point_in (negsuc 16383) (pos 16383) p) (leb r 16383) o in
+      let w = and_parts (point_in (negsuc 16383) (pos 16383) p) (leb r 16383) o in
       let b = w.1 in
       let l : r ≤ 16383 = grind (arith, nat_tests) in
       let i : in_range (pos 0) (pos 16383) (pos r) ≡ true = grind (arith, ints, nat_tests) in
@@ -78,8 +75,8 @@ module _ (ws rest : List ℕ) (count : ℕ) (room : count < length ws) where
   laid_box : (k : ℕ) (lo hi : Point) (s : List Body) → At ws k (words_of (Box lo hi)) → k + 6 ≤ count → sound (Box lo hi) ≡ true → laid bs k kind.Block s ≡ Ok (body_of (Box lo hi) ∷ s)
   unfolding bs laid sound words_of body_of
   laid_box k lo hi s at h o =
-      let w = both (point_in (negsuc 16383) (pos 16383) lo) _ o in
-      let v = both (point_in (negsuc 16383) (pos 16383) hi) (ordered lo hi) w.1 in
+      let w = and_parts (point_in (negsuc 16383) (pos 16383) lo) _ o in
+      let v = and_parts (point_in (negsuc 16383) (pos 16383) hi) (ordered lo hi) w.1 in
       let x = point_back ws rest (k + 1) (negsuc 16383) (pos 16383) lo (omega arith) (look ws (words_of (Box lo hi)) k 1 (k + 1) at (lit< tt) refl) (look ws (words_of (Box lo hi)) k 2 (k + 1 + 1) at (lit< tt) (omega arith)) (look ws (words_of (Box lo hi)) k 3 (k + 1 + 2) at (lit< tt) (omega arith)) (refl, refl) w.0 in
       let y = point_back ws rest (k + 4) (negsuc 16383) (pos 16383) hi (omega arith) (look ws (words_of (Box lo hi)) k 4 (k + 4) at (lit< tt) refl) (look ws (words_of (Box lo hi)) k 5 (k + 4 + 1) at (lit< tt) (omega arith)) (look ws (words_of (Box lo hi)) k 6 (k + 4 + 2) at (lit< tt) (omega arith)) (refl, refl) v.0 in
       simp (x, y, box_laid lo hi s w.0 v.0 v.1)
@@ -126,7 +123,7 @@ module _ (ws rest : List ℕ) (count : ℕ) (room : count < length ws) where
       let last = of_kind 5 0 ∷ [] in
       let l = length-append wa (wb ++ last) in
       let l' = length-append wb last in
-      let os = both (sound a) (sound b) o in
+      let os = and_parts (sound a) (sound b) o in
       let k₁ = k + length wa in
       let k₂ = k₁ + length wb in
       let n₁ = n + size a in
@@ -142,7 +139,7 @@ module _ (ws rest : List ℕ) (count : ℕ) (room : count < length ws) where
       let last = of_kind 6 0 ∷ [] in
       let l = length-append wa (wb ++ last) in
       let l' = length-append wb last in
-      let os = both (sound a) (sound b) o in
+      let os = and_parts (sound a) (sound b) o in
       let k₁ = k + length wa in
       let k₂ = k₁ + length wb in
       let n₁ = n + size a in
@@ -156,8 +153,8 @@ module _ (ws rest : List ℕ) (count : ℕ) (room : count < length ws) where
       let wa = words_of a in
       let last = of_kind 7 0 ∷ point_words v [] in
       let l = length-append wa last in
-      let os = both (sound a) _ o in
-      let ts = both (within 16383 v) (leb (norm v) (body_of a).reach) os.1 in
+      let os = and_parts (sound a) _ o in
+      let ts = and_parts (within 16383 v) (leb (norm v) (body_of a).reach) os.1 in
       let k₁ = k + length wa in
       let n₁ = n + size a in
       let end = at_right ws wa last k k₁ refl at in
@@ -167,8 +164,8 @@ module _ (ws rest : List ℕ) (count : ℕ) (room : count < length ws) where
       let wa = words_of a in
       let last = of_kind 8 0 ∷ signed_word (pos h) ∷ [] in
       let l = length-append wa last in
-      let os = both (sound a) _ o in
-      let ts = both (leb h 1023) (body_of a).exact os.1 in
+      let os = and_parts (sound a) _ o in
+      let ts = and_parts (leb h 1023) (body_of a).exact os.1 in
       let k₁ = k + length wa in
       let n₁ = n + size a in
       let end = at_right ws wa last k k₁ refl at in

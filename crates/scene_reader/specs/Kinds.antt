@@ -1,11 +1,16 @@
 -- The kinds of nodes, by the kinds of their words.
-use Rattle.std.specs.Prelude.{ℕ, cond, ◌==◌}
+use Rattle.std.specs.Prelude.{ℕ, cond, ◌&&◌, Ok, Err, Result, ◌==◌, nat_le}
+use Rattle.words.specs.declared.kind.UnknownKind.{UnknownKind}
 use Rattle.scene_reader.specs.declared.kind.Kind.{Kind}
 use Rattle.scene_reader.specs.declared.kind.Kind.TheVariants.{Ball, Block, Unite, Meet, Shift, Thicken}
 
 -- a node's word is of a kind from 3 to 8
 abbrev pub kind_of : ℕ → Kind
 kind_of n = cond (n == 3) Ball (cond (n == 4) Block (cond (n == 5) Unite (cond (n == 6) Meet (cond (n == 7) Shift Thicken))))
+
+-- the kind of a node by a word's kind; or that kind, which no node has
+abbrev pub node_kind : ℕ → Result Kind UnknownKind
+node_kind n = cond (nat_le 3 n && nat_le n 8) (Ok (kind_of n)) (Err (record { 0 = n }))
 
 -- how many numbers follow it
 abbrev pub numbers : Kind → ℕ

@@ -4,7 +4,7 @@ ghost use Rattle.words.specs.Told.{place_told};
 ghost use Rattle.scene_reader.specs.Told.{scene_told};
 ghost use Rattle.scene_reader.specs.declared.fault.SceneFault.TheVariants.{Word};
 
-use refusal::Refusal;
+use refusal::{Refusal, Rule};
 use scene::draft::DraftFault;
 use words::fault::{WordFault, tell};
 
@@ -21,18 +21,14 @@ pub enum SceneFault {
     Node { fault: DraftFault, place: usize },
 }
 
-const COUNT: u32 = 7;
-
-const NUMBERS: u32 = 12;
-
 impl Refusal for SceneFault {
     ghost told = { scene_told };
 
     fn number(&self) -> u32 {
         match self {
             SceneFault::Word(fault) => fault.number(),
-            SceneFault::Count => COUNT,
-            SceneFault::Numbers { .. } => NUMBERS,
+            SceneFault::Count => Rule::Count.number(),
+            SceneFault::Numbers { .. } => Rule::Unfinished.number(),
             SceneFault::Node { fault, .. } => fault.number(),
         }
     }
@@ -41,8 +37,7 @@ impl Refusal for SceneFault {
         match self {
             SceneFault::Word(fault) => fault.place(),
             SceneFault::Count => 0,
-            SceneFault::Numbers { place } => tell(*place),
-            SceneFault::Node { place, .. } => tell(*place),
+            SceneFault::Numbers { place } | SceneFault::Node { place, .. } => tell(*place),
         }
     }
 }

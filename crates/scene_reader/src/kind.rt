@@ -1,6 +1,8 @@
 //! The kinds of nodes.
 ghost use Rattle.std.specs.Prelude.{◌≡◌};
-ghost use Rattle.scene_reader.specs.Kinds.{kind_of, numbers, takes};
+ghost use Rattle.scene_reader.specs.Kinds.{node_kind, numbers, takes};
+
+use words::kind::{Kind as Word, UnknownKind};
 
 /// What a node is, by the kind of its word.
 #[derive(Clone, Copy, PartialEq, Eq, Debug)]
@@ -13,33 +15,25 @@ pub enum Kind {
     Thicken,
 }
 
-/// The kinds of the words of nodes, from the first to the last.
-pub(crate) const BALL: u32 = 3;
+impl TryFrom<u32> for Kind {
+    type Error = UnknownKind;
 
-const BLOCK: u32 = 4;
+    ghost try_from_gives = { λ n r. r ≡ node_kind n };
 
-const UNITE: u32 = 5;
-
-const MEET: u32 = 6;
-
-const SHIFT: u32 = 7;
-
-pub(crate) const THICKEN: u32 = 8;
-
-impl Kind {
-    pub(crate) fn of(kind: u32) -> Kind
-        ensures { result ≡ kind_of kind }
-    {
-        match kind {
-            BALL => Kind::Ball,
-            BLOCK => Kind::Block,
-            UNITE => Kind::Unite,
-            MEET => Kind::Meet,
-            SHIFT => Kind::Shift,
-            _ => Kind::Thicken,
+    fn try_from(n: u32) -> Result<Kind, UnknownKind> {
+        match Word::try_from(n)? {
+            Word::Ball => Ok(Kind::Ball),
+            Word::Block => Ok(Kind::Block),
+            Word::Unite => Ok(Kind::Unite),
+            Word::Meet => Ok(Kind::Meet),
+            Word::Shift => Ok(Kind::Shift),
+            Word::Thicken => Ok(Kind::Thicken),
+            _ => Err(UnknownKind(n)),
         }
     }
+}
 
+impl Kind {
     /// How many numbers follow the node's word.
     pub(crate) fn numbers(self) -> usize
         ensures { result ≡ numbers self }

@@ -4,24 +4,22 @@ ghost use Rattle.words.specs.Cursor.{text, place, ahead, Moved, Begun};
 ghost use Rattle.words.specs.Reading.{and_then, held};
 ghost use Rattle.scene.specs.Scenes.{scene_body};
 ghost use Rattle.scene.specs.States.{state};
-ghost use Rattle.scene_reader.specs.declared.kind.Kind.TheVariants.{Ball, Block, Unite, Meet, Shift, Thicken};
-ghost use Rattle.scene_reader.specs.Kinds.{numbers};
 ghost use Rattle.scene_reader.specs.Scenes.{at, sure, checked, laid, node_at, ended, nodes_from, count_of, scene_of, put_scene};
 ghost use Rattle.scene_reader.specs.Down.{Down};
 ghost use Rattle.scene_reader.specs.ScenesBack.{ScenesReadBack};
 
 use super::fault::SceneFault;
-use super::kind::{BALL, Kind, THICKEN};
+use super::kind::Kind;
 use scene::Scene;
 use scene::draft::{Draft, DraftFault};
+use words::fault::WordFault;
+use words::kind::Kind as Word;
 use words::reader::Reader;
 
-/// The kind of a scene's start word.
-const SCENE: u32 = 1;
-/// The most words that a scene has after its start word, and the most nodes.
-const MOST_WORDS: u32 = 1792;
+/// How many words a scene has after its start word.
+const LEAST_WORDS: u32 = 1;
 
-const MOST_NODES: usize = 256;
+const MOST_WORDS: u32 = 1792;
 /// The range of centres and corners.
 const LEAST_COORDINATE: i32 = -16_384;
 
@@ -37,10 +35,7 @@ const MOST_THICKNESS: i32 = 1023;
 fn at<T>(place: usize, answer: Result<T, DraftFault>) -> Result<T, SceneFault>
     ensures { result ≡ at place answer }
 {
-    match answer {
-        Ok(value) => Ok(value),
-        Err(fault) => Err(SceneFault::Node { fault, place }),
-    }
+    answer.map_err(|fault| SceneFault::Node { fault, place })
 }
 
 /// Is what a thickening takes exact?
@@ -54,111 +49,58 @@ fn sure(draft: &Draft, kind: Kind) -> bool
 }
 
 /// What is looked at before the numbers of the node at a place.
+#[tactic(auto, unfolding(crate::specs::Scenes::checked))]
 fn check(draft: &Draft, kind: Kind, place: usize, count: usize) -> Result<(), SceneFault>
     requires { place ≤ 1792 }
     ensures { result ≡ checked count place (state draft.now).0 kind (state draft.now).1 }
 {
-    if draft.nodes() >= MOST_NODES {
-        return Err(SceneFault::Node {
-            fault: DraftFault::Full,
-            place,
-        });
-    }
+    let refused = |fault| Err(SceneFault::Node { fault, place });
+    at(place, draft.check_room())?;
     if place + kind.numbers() > count {
         return Err(SceneFault::Numbers { place });
     }
     if draft.standing() < kind.takes() {
-        return Err(SceneFault::Node {
-            fault: DraftFault::TooFew,
-            place,
-        });
+        return refused(DraftFault::TooFew);
     }
     if !sure(draft, kind) {
-        return Err(SceneFault::Node {
-            fault: DraftFault::Inexact,
-            place,
-        });
+        return refused(DraftFault::Inexact);
     }
     Ok(())
 }
 
-/// Reads the numbers of a ball, and lays it down.
-fn ball(from: &mut Reader<'_>, draft: &mut Draft, node: usize) -> Result<(), SceneFault>
-    requires here { place from.old ≡ node + 1 }
-    requires room { (state draft.old).0 < 256 }
-    ensures { Down Ball node result from.old from.new draft.old draft.new }
-{
-    let centre = from.point(LEAST_COORDINATE, MOST_COORDINATE)?;
-    let radius = from.number_in(0, MOST_RADIUS)?;
-    at(node, draft.ball(centre, radius))
-}
-
-/// Reads the numbers of a box, and lays it down.
-fn block(from: &mut Reader<'_>, draft: &mut Draft, node: usize) -> Result<(), SceneFault>
-    requires here { place from.old ≡ node + 1 }
-    requires room { (state draft.old).0 < 256 }
-    ensures { Down Block node result from.old from.new draft.old draft.new }
-{
-    let lo = from.point(LEAST_COORDINATE, MOST_COORDINATE)?;
-    let hi = from.point(LEAST_COORDINATE, MOST_COORDINATE)?;
-    at(node, draft.block(lo, hi))
-}
-
-/// Lays down what unites the last two that stand.
-fn unite(from: &Reader<'_>, draft: &mut Draft, node: usize) -> Result<(), SceneFault>
-    requires here { place from.now ≡ node + 1 }
-    requires room { (state draft.old).0 < 256 }
-    ensures { Down Unite node result from.now from.now draft.old draft.new }
-{
-    at(node, draft.unite())
-}
-
-/// Lays down what is common to the last two that stand.
-fn meet(from: &Reader<'_>, draft: &mut Draft, node: usize) -> Result<(), SceneFault>
-    requires here { place from.now ≡ node + 1 }
-    requires room { (state draft.old).0 < 256 }
-    ensures { Down Meet node result from.now from.now draft.old draft.new }
-{
-    at(node, draft.meet())
-}
-
-/// Reads the offset of a shift, and lays it down.
-fn shift(from: &mut Reader<'_>, draft: &mut Draft, node: usize) -> Result<(), SceneFault>
-    requires here { place from.old ≡ node + 1 }
-    requires room { (state draft.old).0 < 256 }
-    ensures { Down Shift node result from.old from.new draft.old draft.new }
-{
-    let by = from.point(-MOST_OFFSET, MOST_OFFSET)?;
-    at(node, draft.shift(by))
-}
-
-/// Reads the thickness of a thickening, and lays it down.
-fn thicken(from: &mut Reader<'_>, draft: &mut Draft, node: usize) -> Result<(), SceneFault>
-    requires here { place from.old ≡ node + 1 }
-    requires room { (state draft.old).0 < 256 }
-    ensures { Down Thicken node result from.old from.new draft.old draft.new }
-{
-    let by = from.number_in(0, MOST_THICKNESS)?;
-    at(node, draft.thicken(by))
-}
-
 /// Reads the numbers of the node at a place, and lays it down.
+#[tactic(auto, unfolding(crate::specs::Scenes::laid))]
 fn lay(from: &mut Reader<'_>, draft: &mut Draft, node: usize, kind: Kind) -> Result<(), SceneFault>
     requires here { place from.old ≡ node + 1 }
     requires room { (state draft.old).0 < 256 }
     ensures { Down kind node result from.old from.new draft.old draft.new }
 {
     match kind {
-        Kind::Ball => ball(from, draft, node),
-        Kind::Block => block(from, draft, node),
-        Kind::Unite => unite(from, draft, node),
-        Kind::Meet => meet(from, draft, node),
-        Kind::Shift => shift(from, draft, node),
-        Kind::Thicken => thicken(from, draft, node),
+        Kind::Ball => {
+            let centre = from.point(LEAST_COORDINATE, MOST_COORDINATE)?;
+            let radius = from.number_in(0, MOST_RADIUS)?;
+            at(node, draft.ball(centre, radius))
+        }
+        Kind::Block => {
+            let lo = from.point(LEAST_COORDINATE, MOST_COORDINATE)?;
+            let hi = from.point(LEAST_COORDINATE, MOST_COORDINATE)?;
+            at(node, draft.block(lo, hi))
+        }
+        Kind::Unite => at(node, draft.unite()),
+        Kind::Meet => at(node, draft.meet()),
+        Kind::Shift => {
+            let by = from.point(-MOST_OFFSET, MOST_OFFSET)?;
+            at(node, draft.shift(by))
+        }
+        Kind::Thicken => {
+            let by = from.number_in(0, MOST_THICKNESS)?;
+            at(node, draft.thicken(by))
+        }
     }
 }
 
 /// Reads a node.
+#[tactic(auto, unfolding(crate::specs::Scenes::node_at))]
 fn node(from: &mut Reader<'_>, draft: &mut Draft, count: usize) -> Result<(), SceneFault>
     requires { place from.old ≤ 1792 }
     ensures value { held result ((state draft.new).1, place from.new) ≡ node_at (text from.old) count (place from.old) (state draft.old).0 (state draft.old).1 }
@@ -168,7 +110,8 @@ fn node(from: &mut Reader<'_>, draft: &mut Draft, count: usize) -> Result<(), Sc
     ensures onward { OnOk result (place from.old < place from.new) }
 {
     let place = from.place();
-    let kind = Kind::of(from.bare(BALL, THICKEN)?);
+    let number = from.bare(Word::Ball.number(), Word::Thicken.number())?;
+    let kind = Kind::try_from(number).map_err(|_| WordFault::Kind { place })?;
     check(draft, kind, place, count)?;
     lay(from, draft, place, kind)
 }
@@ -190,6 +133,7 @@ fn nodes(from: &mut Reader<'_>, draft: &mut Draft, count: usize) -> Result<(), S
 }
 
 /// Reads the start word: how many words come after it.
+#[tactic(auto, unfolding(crate::specs::Scenes::count_of))]
 fn count(from: &mut Reader<'_>) -> Result<usize, SceneFault>
     requires { place from.old ≡ 0 }
     ensures value { result ≡ count_of (text from.old) }
@@ -197,8 +141,8 @@ fn count(from: &mut Reader<'_>) -> Result<usize, SceneFault>
     ensures range { IfOk result (λ n. (1 ≤ n) × (n ≤ 1792)) }
 {
     let mut ahead = *from;
-    let (_, count) = ahead.word(SCENE, SCENE)?;
-    if count < 1 || count > MOST_WORDS {
+    let count = ahead.rest_of(Word::Scene)?;
+    if !(LEAST_WORDS..=MOST_WORDS).contains(&count) {
         return Err(SceneFault::Count);
     }
     *from = ahead;

@@ -3,19 +3,25 @@
 //! exact, its numbers one by one, and last a box's corners or the reach that a shift must not pass.
 ghost use Rattle.std.specs.Prelude.{◌≡◌, ◌+◌, ◌<◌, ◌≤◌, true, List, [], ◌∷◌, map, length, drop};
 ghost use Rattle.geometry.specs.Layers.{unite, meet};
-ghost use Rattle.scene.specs.Standing.{step, fits, summed, last_exact};
+ghost use Rattle.scene.specs.Standing.{joined, step, fits, summed, last_exact};
 ghost use Rattle.scene.specs.Laid.{ball_on, box_on, two_on, shift_on, thicken_on};
 ghost use Rattle.scene.specs.Known.{last_of, last_two, only};
 ghost use Rattle.scene.specs.States.{state, room, lay};
 
-use super::super::node::{Node, Summary};
+use super::super::node::{Join, Node, Summary};
+use super::super::stack::Stack;
 use super::super::table::{MOST_NODES, Table};
 use super::{Draft, DraftFault};
 use lattice::Point;
 use layers::{check_offset, check_thickness};
 use leaves::axis_box::AxisBox;
 use leaves::ball::Ball;
-use solid::Solid;
+
+/// What fills the room in which no body is summed up.
+const BLANK: Summary = Summary {
+    reach: 0,
+    exact: false,
+};
 
 impl Draft {
     /// A draft of no nodes.
@@ -24,11 +30,7 @@ impl Draft {
     {
         Draft {
             table: Table::new(),
-            summaries: [Summary {
-                reach: 0,
-                exact: false,
-            }; MOST_NODES],
-            height: 0,
+            summaries: Stack::new(BLANK),
         }
     }
 
@@ -36,27 +38,25 @@ impl Draft {
     pub fn nodes(&self) -> usize
         ensures { result ≡ (state self.now).0 }
     {
-        self.table.count
+        self.table.count()
     }
 
     /// How many of them stand.
     pub fn standing(&self) -> usize
         ensures { result ≡ length (state self.now).1 }
     {
-        self.height
+        self.summaries.height
     }
 
     /// Does a node stand, and is the last that does exact?
     pub fn last_is_exact(&self) -> bool
         ensures { result ≡ last_exact (state self.now).1 }
     {
-        match self.last() {
-            Ok(last) => last.exact,
-            Err(_) => false,
-        }
+        self.last().is_ok_and(|last| last.exact)
     }
 
-    fn check_room(&self) -> Result<(), DraftFault>
+    /// Checks that there is room for one node more.
+    pub fn check_room(&self) -> Result<(), DraftFault>
         ensures { result ≡ room (state self.now).0 }
     {
         if self.nodes() >= MOST_NODES {
@@ -69,33 +69,30 @@ impl Draft {
     fn last(&self) -> Result<Summary, DraftFault>
         ensures { result ≡ last_of (state self.now).1 }
     {
-        if self.height < 1 {
+        let [.., last] = self.summaries.as_slice() else {
             return Err(DraftFault::TooFew);
-        }
-        Ok(self.summaries[self.height - 1])
+        };
+        Ok(*last)
     }
 
     /// The last two that stand, first the one that was laid down earlier.
     fn last_two(&self) -> Result<(Summary, Summary), DraftFault>
         ensures { result ≡ last_two (state self.now).1 }
     {
-        if self.height < 2 {
+        let [.., left, right] = self.summaries.as_slice() else {
             return Err(DraftFault::TooFew);
-        }
-        Ok((
-            self.summaries[self.height - 2],
-            self.summaries[self.height - 1],
-        ))
+        };
+        Ok((*left, *right))
     }
 
     /// The one node that stands.
     pub(crate) fn only(&self) -> Result<Summary, DraftFault>
         ensures { result ≡ only (state self.now).1 }
     {
-        if self.height != 1 {
+        let [one] = self.summaries.as_slice() else {
             return Err(DraftFault::Unfinished);
-        }
-        Ok(self.summaries[0])
+        };
+        Ok(*one)
     }
 
     /// Lays down a node that takes so many, and of which this is the summary.
@@ -106,9 +103,8 @@ impl Draft {
         requires right { map summed (step node (state self.old).1) ≡ summary ∷ map summed (drop taken (state self.old).1) }
         ensures { state self.new ≡ ((state self.old).0 + 1, step node (state self.old).1) }
     {
-        let below = self.height - taken;
-        self.summaries[below] = summary;
-        self.height = below + 1;
+        self.summaries.take_off(taken);
+        self.summaries.push(summary);
         self.table.push(node);
     }
 
@@ -118,14 +114,7 @@ impl Draft {
     {
         self.check_room()?;
         let ball = Ball::new(centre, radius)?;
-        self.put(
-            Node::Ball(ball),
-            0,
-            Summary {
-                reach: ball.reach(),
-                exact: true,
-            },
-        );
+        self.put(Node::Ball(ball), 0, Summary::of(&ball));
         Ok(())
     }
 
@@ -135,14 +124,7 @@ impl Draft {
     {
         self.check_room()?;
         let block = AxisBox::new(lo, hi)?;
-        self.put(
-            Node::Block(block),
-            0,
-            Summary {
-                reach: block.reach(),
-                exact: true,
-            },
-        );
+        self.put(Node::Block(block), 0, Summary::of(&block));
         Ok(())
     }
 
@@ -150,33 +132,23 @@ impl Draft {
     pub fn unite(&mut self) -> Result<(), DraftFault>
         ensures { (result, state self.new) ≡ lay (two_on unite) (state self.old) }
     {
-        self.check_room()?;
-        let (left, right) = self.last_two()?;
-        self.put(
-            Node::Unite,
-            2,
-            Summary {
-                reach: left.reach.min(right.reach),
-                exact: left.exact && right.exact,
-            },
-        );
-        Ok(())
+        self.join(Join::Unite)
     }
 
     /// Lets the last two that stand meet.
     pub fn meet(&mut self) -> Result<(), DraftFault>
         ensures { (result, state self.new) ≡ lay (two_on meet) (state self.old) }
     {
+        self.join(Join::Meet)
+    }
+
+    /// Joins the last two that stand.
+    fn join(&mut self, join: Join) -> Result<(), DraftFault>
+        ensures { (result, state self.new) ≡ lay (two_on (joined join)) (state self.old) }
+    {
         self.check_room()?;
         let (left, right) = self.last_two()?;
-        self.put(
-            Node::Meet,
-            2,
-            Summary {
-                reach: left.reach.min(right.reach),
-                exact: false,
-            },
-        );
+        self.put(Node::Joined(join), 2, join.summary(left, right));
         Ok(())
     }
 
@@ -187,14 +159,11 @@ impl Draft {
         self.check_room()?;
         let last = self.last()?;
         check_offset(last.reach, by)?;
-        self.put(
-            Node::Shift(by),
-            1,
-            Summary {
-                reach: last.reach - by.norm(),
-                exact: last.exact,
-            },
-        );
+        let moved = Summary {
+            reach: last.reach - by.norm(),
+            exact: last.exact,
+        };
+        self.put(Node::Shift(by), 1, moved);
         Ok(())
     }
 

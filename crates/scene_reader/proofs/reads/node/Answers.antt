@@ -2,40 +2,41 @@ use Rattle.std.proofs.Common.{◌≡◌, ◌+◌, IfOk, Ok, sym, ◌∙◌, subs
 use Rattle.words.specs.Cursor.{text, place}
 use Rattle.words.specs.Reading.{held, bare_at}
 use Rattle.scene.specs.States.{state}
-use Rattle.scene_reader.specs.Kinds.{numbers}
-use Rattle.scene_reader.specs.Scenes.{checked, laid, node_at}
+use Rattle.scene_reader.specs.Kinds.{kind_of, numbers}
+use Rattle.scene_reader.specs.Scenes.{checked, laid}
+use Rattle.scene_reader.proofs.Named.{node_word, mapped}
 use Rattle.scene_reader.proofs.Laying.{passes, joined, node_is, made_on}
 use Rattle.scene_reader.proofs.reads.node.Goals as goal
 
-pub returns-in_err-bare : goal.returns-in_err-bare
-unfolding node_at
-returns-in_err-bare c = record { value = search rules; counted = search rules; text = search rules; within = search rules; onward = search rules }
-
-pub returns-in_err-check : goal.returns-in_err-check
-unfolding node_at
-returns-in_err-check c = record { value = search rules; counted = search rules; text = search rules; within = search rules; onward = search rules }
+pub returns-in_err-kind : goal.returns-in_err-kind
+returns-in_err-kind c =
+    let b : bare_at (text c.args.from.now) (place c.args.from.now) 3 8 ≡ Ok c.in_ok-number.number = search rules in
+    let m = mapped c.try_from.result c.map_err.result (kind_of c.in_ok-number.number) _ (c.try_from.ensures ∙ node_word _ _ _ b) c.map_err.ensures.cases in
+    absurd (cc (m, c.in_err-kind.was))
 
 pub lay-requires : goal.lay-requires
 lay-requires c =
-    let h : checked c.args.count c.place-place.result (state c.args.draft.now).0 c.of-kind.result (state c.args.draft.now).1 ≡ Ok c.in_ok-check.field-0 = search rules in
-    record { here = search rules; room = (passes c.args.count c.place-place.result (state c.args.draft.now).0 c.of-kind.result (state c.args.draft.now).1 _ h).0 }
+    let h : checked c.args.count c.place-place.result (state c.args.draft.now).0 c.in_ok-kind.kind (state c.args.draft.now).1 ≡ Ok c.in_ok-check.field-0 = search rules in
+    record { here = search rules; room = (passes c.args.count c.place-place.result (state c.args.draft.now).0 c.in_ok-kind.kind (state c.args.draft.now).1 _ h).0 }
 
 pub returns : goal.returns
 returns c =
     let bs = text c.args.from.now in
     let k = place c.args.from.now in
     let x = state c.args.draft.now in
-    let kind = c.of-kind.result in
+    let kind = c.in_ok-kind.kind in
     let p : c.place-place.result ≡ k = search rules in
-    let b : bare_at bs k 3 8 ≡ Ok c.in_ok-bare.field-0 = search rules in
+    let b : bare_at bs k 3 8 ≡ Ok c.in_ok-number.number = search rules in
+    let m = mapped c.try_from.result c.map_err.result (kind_of c.in_ok-number.number) _ (c.try_from.ensures ∙ node_word bs k _ b) c.map_err.ensures.cases in
+    let e : kind ≡ kind_of c.in_ok-number.number = cc (m, c.in_ok-kind.was) in
     let h : checked c.args.count k x.0 kind x.1 ≡ Ok c.in_ok-check.field-0 = search rules in
     let v : held c.lay.result (state c.lay.new.draft).1 ≡ laid bs k kind x.1 = search rules in
-    let m : IfOk c.lay.result (λ _. place c.lay.new.from ≡ k + 1 + numbers kind) = subst (λ z. IfOk c.lay.result (λ _. place c.lay.new.from ≡ z + 1 + numbers kind)) p c.lay.ensures.moved in
+    let l : IfOk c.lay.result (λ _. place c.lay.new.from ≡ k + 1 + numbers kind) = subst (λ z. IfOk c.lay.result (λ _. place c.lay.new.from ≡ z + 1 + numbers kind)) p c.lay.ensures.moved in
     let w = (passes c.args.count k x.0 kind x.1 _ h).1 in
     record {
-      value = joined c.lay.result _ _ _ _ v m ∙ sym (node_is bs c.args.count k x.0 x.1 _ kind _ b c.of-kind.ensures h);
+      value = joined c.lay.result _ _ _ _ v l ∙ sym (node_is bs c.args.count k x.0 x.1 _ kind _ b e h);
       counted = c.lay.ensures.counted;
       text = search rules;
-      within = made_on c.lay.result _ _ (λ q. omega arith) m;
-      onward = made_on c.lay.result _ _ (λ q. omega arith) m;
+      within = made_on c.lay.result _ _ (λ q. omega arith) l;
+      onward = made_on c.lay.result _ _ (λ q. omega arith) l;
     }

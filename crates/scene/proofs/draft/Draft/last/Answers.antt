@@ -1,10 +1,9 @@
 use Rattle.std.proofs.Common.{arith}
-use Rattle.scene.specs.Standing.{standing}
-use Rattle.scene.proofs.Summaries.{height, last_read, no_last}
+use Rattle.scene.proofs.Summaries.{last_shown, no_last}
 use Rattle.scene.proofs.draft.Draft.last.Goals as goal
 
-pub returns-then-self-lt1 : goal.returns-then-self-lt1
-returns-then-self-lt1 c = no_last (standing c.args.self.now.table.nodes c.args.self.now.table.count) (omega (arith, height _ _ _ c.args.self.now.tally))
+pub returns-in_default : goal.returns-in_default
+returns-in_default c = no_last _ _ _ _ c.args.self.now.tally (omega arith) c.as_slice.ensures c.in_default.len_below
 
 pub returns : goal.returns
-returns c = last_read _ _ _ c.args.self.now.tally (omega arith)
+returns c = last_shown _ _ _ _ c.args.self.now.tally (omega arith) c.as_slice.ensures c.in-len1-up.len_at_least

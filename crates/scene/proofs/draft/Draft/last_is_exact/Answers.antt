@@ -1,8 +1,6 @@
-use Rattle.scene.proofs.Summaries.{exact_known, exact_unknown}
+use Rattle.std.proofs.Common.{rules}
+use Rattle.scene.proofs.Summaries.{exactness}
 use Rattle.scene.proofs.draft.Draft.last_is_exact.Goals as goal
 
-pub returns-in-Ok : goal.returns-in-Ok
-returns-in-Ok c = exact_known _ c.in-Ok.last c.in-Ok.ensures
-
-pub returns-in-Err : goal.returns-in-Err
-returns-in-Err c = exact_unknown _ _ c.in-Err.ensures
+pub returns : goal.returns
+returns c = exactness _ _ _ _ (λ x h. search rules) c.last.ensures c.is_ok_and.ensures

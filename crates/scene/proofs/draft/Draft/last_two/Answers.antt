@@ -1,10 +1,9 @@
 use Rattle.std.proofs.Common.{arith}
-use Rattle.scene.specs.Standing.{standing}
-use Rattle.scene.proofs.Summaries.{height, two_read, no_two}
+use Rattle.scene.proofs.Summaries.{two_shown, no_two}
 use Rattle.scene.proofs.draft.Draft.last_two.Goals as goal
 
-pub returns-then-self-lt2 : goal.returns-then-self-lt2
-returns-then-self-lt2 c = no_two (standing c.args.self.now.table.nodes c.args.self.now.table.count) (omega (arith, height _ _ _ c.args.self.now.tally))
+pub returns-in_default : goal.returns-in_default
+returns-in_default c = no_two _ _ _ _ c.args.self.now.tally (omega arith) c.as_slice.ensures c.in_default.len_below
 
 pub returns : goal.returns
-returns c = two_read _ _ _ c.args.self.now.tally (omega arith)
+returns c = two_shown _ _ _ _ c.args.self.now.tally (omega arith) c.as_slice.ensures c.in-len2-up.len_at_least

@@ -1,10 +1,12 @@
 use Rattle.std.proofs.Common.{arith}
-use Rattle.scene.specs.Standing.{standing}
-use Rattle.scene.proofs.Summaries.{height, only_read, not_only}
+use Rattle.scene.proofs.Summaries.{only_shown, not_only}
 use Rattle.scene.proofs.draft.Draft.only.Goals as goal
 
-pub returns-then-self-ne1 : goal.returns-then-self-ne1
-returns-then-self-ne1 c = not_only (standing c.args.self.now.table.nodes c.args.self.now.table.count) (λ e. omega (arith, e, height _ _ _ c.args.self.now.tally))
+pub returns-in_default : goal.returns-in_default
+returns-in_default c = not_only _ _ _ _ c.args.self.now.tally (omega arith) c.as_slice.ensures (λ e. omega arith)
+
+pub returns-in_default-2 : goal.returns-in_default-2
+returns-in_default-2 c = not_only _ _ _ _ c.args.self.now.tally (omega arith) c.as_slice.ensures (λ e. omega arith)
 
 pub returns : goal.returns
-returns c = only_read _ _ _ c.args.self.now.tally (omega arith)
+returns c = only_shown _ _ _ _ c.args.self.now.tally (omega arith) c.as_slice.ensures c.in-len1.len_at_least c.in-len1.len_below

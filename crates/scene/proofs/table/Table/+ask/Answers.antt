@@ -1,10 +1,8 @@
-use Rattle.std.proofs.Common.{◌≡◌, ◌-◌, min, max, true, sym, refl, ap, ◌∙◌, subst, ap₂, arith, rules}
-use Rattle.lattice.specs.Space.{In}
-use Rattle.lattice.proofs.Distance.{in_less}
+use Rattle.std.proofs.Common.{◌≡◌, ◌-◌, true, sym, refl, ap, ◌∙◌, subst, ap₂, arith, rules}
+use Rattle.lattice.specs.Space.{In, back}
 use Rattle.geometry.specs.Leaves.{ball, block}
-use Rattle.geometry.specs.Layers.{unite, meet}
-use Rattle.scene.specs.Standing.{standing, some, top, rest}
-use Rattle.scene.proofs.Stacks.{some_laid, leaf_asked, takes_two, shifts, thickens, top_reach}
+use Rattle.scene.specs.Standing.{joined_clear, standing, some, top, rest}
+use Rattle.scene.proofs.Stacks.{some_laid, leaf_asked, takes_two, found, shifts, thickens, top_reach}
 use Rattle.scene.proofs.table.Table.+ask.Goals as goal
 
 pub overflow_sub-last : goal.overflow_sub-last
@@ -15,7 +13,7 @@ last_of-requires t c = record { some = some_laid _ _ c.requires.stands; laid = c
 
 pub returns-in-Ball : goal.returns-in-Ball
 returns-in-Ball t c =
-    let ns = c.args.self.now.nodes in
+    let ns = c.args.self.now.nodes.items in
     let w = c.in-Ball.ensures in
     let h = some_laid ns c.args.end c.requires.stands in
     record {
@@ -26,7 +24,7 @@ returns-in-Ball t c =
 
 pub returns-in-Block : goal.returns-in-Block
 returns-in-Block t c =
-    let ns = c.args.self.now.nodes in
+    let ns = c.args.self.now.nodes.items in
     let w = c.in-Block.ensures in
     let h = some_laid ns c.args.end c.requires.stands in
     record {
@@ -37,95 +35,66 @@ returns-in-Block t c =
 
 pub ask-right-requires : goal.ask-right-requires
 ask-right-requires t c =
-    let ns = c.args.self.now.nodes in
-    let w = c.in-Unite.ensures in
-    let u = takes_two unite (λ a b. refl) (standing ns (c.args.end - 1)) (standing ns c.args.end) w.made w.fit c.args.p c.requires.near in
+    let ns = c.args.self.now.nodes.items in
+    let w = c.in-Joined.ensures in
+    let u = takes_two c.in-Joined.join (standing ns (c.args.end - 1)) (standing ns c.args.end) w.made w.fit c.args.p c.requires.near in
     let h = some_laid ns c.args.end c.requires.stands in
     (search rules, (omega arith, (u.stands, u.right)))
 
 pub ask-left-requires : goal.ask-left-requires
 ask-left-requires t c =
-    let ns = c.args.self.now.nodes in
-    let w = c.in-Unite.ensures in
-    let u = takes_two unite (λ a b. refl) (standing ns (c.args.end - 1)) (standing ns c.args.end) w.made w.fit c.args.p c.requires.near in
+    let ns = c.args.self.now.nodes.items in
+    let w = c.in-Joined.ensures in
+    let u = takes_two c.in-Joined.join (standing ns (c.args.end - 1)) (standing ns c.args.end) w.made w.fit c.args.p c.requires.near in
     let e = sym c.ask-right.ensures.before in
     (search rules, (omega arith, (subst (λ m. some m ≡ true) e w.fit, subst (λ m. In (top m).reach c.args.p) e u.left)))
 
-pub returns-in-Unite : goal.returns-in-Unite
-returns-in-Unite t c =
-    let ns = c.args.self.now.nodes in
-    let w = c.in-Unite.ensures in
-    let u = takes_two unite (λ a b. refl) (standing ns (c.args.end - 1)) (standing ns c.args.end) w.made w.fit c.args.p c.requires.near in
+pub returns-in-Joined : goal.returns-in-Joined
+returns-in-Joined t c =
+    let ns = c.args.self.now.nodes.items in
+    let w = c.in-Joined.ensures in
+    let u = takes_two c.in-Joined.join (standing ns (c.args.end - 1)) (standing ns c.args.end) w.made w.fit c.args.p c.requires.near in
     let e = c.ask-right.ensures.before in
-    let clear : min c.ask-left.result.0 c.ask-right.result.0 ≡ (top (standing ns c.args.end)).clear c.args.p
-    = ap₂ min (c.ask-left.ensures.value ∙ ap (λ m. (top m).clear c.args.p) e) c.ask-right.ensures.value ∙ sym u.clear in
     record {
-      value = omega (arith, clear);
+      value = c.clearance-in-Joined.ensures ∙ ap₂ (joined_clear c.in-Joined.join) (c.ask-left.ensures.value ∙ ap (λ m. (top m).clear c.args.p) e) c.ask-right.ensures.value ∙ sym u.clear;
       before = c.ask-left.ensures.before ∙ ap rest e ∙ sym u.before;
       fewer = omega arith;
     }
 
-pub ask-right-requires-in-Meet : goal.ask-right-requires-in-Meet
-ask-right-requires-in-Meet t c =
-    let ns = c.args.self.now.nodes in
-    let w = c.in-Meet.ensures in
-    let u = takes_two meet (λ a b. refl) (standing ns (c.args.end - 1)) (standing ns c.args.end) w.made w.fit c.args.p c.requires.near in
-    let h = some_laid ns c.args.end c.requires.stands in
-    (search rules, (omega arith, (u.stands, u.right)))
-
-pub ask-left-requires-in-Meet : goal.ask-left-requires-in-Meet
-ask-left-requires-in-Meet t c =
-    let ns = c.args.self.now.nodes in
-    let w = c.in-Meet.ensures in
-    let u = takes_two meet (λ a b. refl) (standing ns (c.args.end - 1)) (standing ns c.args.end) w.made w.fit c.args.p c.requires.near in
-    let e = sym c.ask-right-in-Meet.ensures.before in
-    (search rules, (omega arith, (subst (λ m. some m ≡ true) e w.fit, subst (λ m. In (top m).reach c.args.p) e u.left)))
-
-pub returns-in-Meet : goal.returns-in-Meet
-returns-in-Meet t c =
-    let ns = c.args.self.now.nodes in
-    let w = c.in-Meet.ensures in
-    let u = takes_two meet (λ a b. refl) (standing ns (c.args.end - 1)) (standing ns c.args.end) w.made w.fit c.args.p c.requires.near in
-    let e = c.ask-right-in-Meet.ensures.before in
-    let clear : max c.ask-left-in-Meet.result.0 c.ask-right-in-Meet.result.0 ≡ (top (standing ns c.args.end)).clear c.args.p
-    = ap₂ max (c.ask-left-in-Meet.ensures.value ∙ ap (λ m. (top m).clear c.args.p) e) c.ask-right-in-Meet.ensures.value ∙ sym u.clear in
-    record {
-      value = omega (arith, clear);
-      before = c.ask-left-in-Meet.ensures.before ∙ ap rest e ∙ sym u.before;
-      fewer = omega arith;
-    }
-
-pub moved_back-requires : goal.moved_back-requires
-moved_back-requires t c =
-    let ns = c.args.self.now.nodes in
+pub unwrap-requires-in-Shift : goal.unwrap-requires-in-Shift
+unwrap-requires-in-Shift t c =
+    let ns = c.args.self.now.nodes.items in
     let w = c.in-Shift.ensures in
-    let u = shifts c.in-Shift.by (standing ns (c.args.end - 1)) (standing ns c.args.end) w.made w.fit c.args.p c.requires.near in
-    let far = top_reach ns (c.args.end - 1) in
-    let l = u.short in
-    record { short = omega arith; near = in_less _ _ c.args.p (omega arith) u.near }
+    let u = shifts c.in-Shift.by (standing ns (c.args.end - 1)) (standing ns c.args.end) (top_reach ns (c.args.end - 1)) w.made w.fit c.args.p c.requires.near in
+    let f = found c.checked_sub.result _ (back c.in-Shift.by c.args.p) c.checked_sub.ensures u.held in
+    rw f refl
 
 pub ask-requires : goal.ask-requires
 ask-requires t c =
-    let ns = c.args.self.now.nodes in
+    let ns = c.args.self.now.nodes.items in
     let w = c.in-Shift.ensures in
-    let u = shifts c.in-Shift.by (standing ns (c.args.end - 1)) (standing ns c.args.end) w.made w.fit c.args.p c.requires.near in
+    let u = shifts c.in-Shift.by (standing ns (c.args.end - 1)) (standing ns c.args.end) (top_reach ns (c.args.end - 1)) w.made w.fit c.args.p c.requires.near in
+    let f = found c.checked_sub.result _ (back c.in-Shift.by c.args.p) c.checked_sub.ensures u.held in
+    let b : c.unwrap-in-Shift.result ≡ back c.in-Shift.by c.args.p = cc (f, c.unwrap-in-Shift.ensures) in
     let h = some_laid ns c.args.end c.requires.stands in
-    (search rules, (omega arith, (u.stands, subst (In (top (standing ns (c.args.end - 1))).reach) (sym c.moved_back.ensures) u.below)))
+    (search rules, (omega arith, (u.stands, subst (In (top (standing ns (c.args.end - 1))).reach) (sym b) u.below)))
 
 pub returns-in-Shift : goal.returns-in-Shift
 returns-in-Shift t c =
-    let ns = c.args.self.now.nodes in
+    let ns = c.args.self.now.nodes.items in
     let w = c.in-Shift.ensures in
-    let u = shifts c.in-Shift.by (standing ns (c.args.end - 1)) (standing ns c.args.end) w.made w.fit c.args.p c.requires.near in
+    let u = shifts c.in-Shift.by (standing ns (c.args.end - 1)) (standing ns c.args.end) (top_reach ns (c.args.end - 1)) w.made w.fit c.args.p c.requires.near in
+    let f = found c.checked_sub.result _ (back c.in-Shift.by c.args.p) c.checked_sub.ensures u.held in
+    let b : c.unwrap-in-Shift.result ≡ back c.in-Shift.by c.args.p = cc (f, c.unwrap-in-Shift.ensures) in
     record {
-      value = c.ask.ensures.value ∙ ap (top (standing ns (c.args.end - 1))).clear c.moved_back.ensures ∙ sym u.clear;
+      value = c.ask.ensures.value ∙ ap (top (standing ns (c.args.end - 1))).clear b ∙ sym u.clear;
       before = c.ask.ensures.before ∙ sym u.before;
       fewer = omega arith;
     }
 
 pub ask-clear-requires : goal.ask-clear-requires
 ask-clear-requires t c =
-    let ns = c.args.self.now.nodes in
+    let ns = c.args.self.now.nodes.items in
     let w = c.in-Thicken.ensures in
     let u = thickens c.in-Thicken.by (standing ns (c.args.end - 1)) (standing ns c.args.end) w.made w.fit c.args.p c.requires.near in
     let h = some_laid ns c.args.end c.requires.stands in
@@ -133,7 +102,7 @@ ask-clear-requires t c =
 
 pub returns-in-Thicken : goal.returns-in-Thicken
 returns-in-Thicken t c =
-    let ns = c.args.self.now.nodes in
+    let ns = c.args.self.now.nodes.items in
     let w = c.in-Thicken.ensures in
     let u = thickens c.in-Thicken.by (standing ns (c.args.end - 1)) (standing ns c.args.end) w.made w.fit c.args.p c.requires.near in
     record {

@@ -1,17 +1,18 @@
 use Rattle.std.proofs.Common.{◌-◌, ◌<◌, length, sym, ap, ◌∙◌, arith}
 use Rattle.std.proofs.lemmas.List.{get_or_default}
-use Rattle.scene.specs.declared.node.Node.TheVariants.{Unite}
+use Rattle.scene.specs.declared.node.Join.TheVariants.{Unite}
+use Rattle.scene.specs.declared.node.Node.TheVariants.{Joined}
 use Rattle.scene.specs.Standing.{step, fits, standing}
 use Rattle.scene.proofs.Gathers.{gathered_last}
 use Rattle.scene.proofs.table.Table.last_of.Goals as goal
 
 pub returns : goal.returns
 returns c =
-    let ns = c.args.self.now.nodes in
+    let ns = c.args.self.now.nodes.items in
     let k = c.args.end - 1 in
     let l : k < length ns = omega arith in
-    let e = get_or_default ns k Unite c.index-self-end.result l in
+    let e = get_or_default ns k (Joined Unite) c.index-self-end.result l in
     record {
-      made = gathered_last step _ Unite ns c.args.end c.requires.some ∙ ap (λ n. step n (standing ns k)) e;
+      made = gathered_last step _ (Joined Unite) ns c.args.end c.requires.some ∙ ap (λ n. step n (standing ns k)) e;
       fit = ap (λ n. fits n (standing ns k)) (sym e) ∙ c.args.self.now.sound k (omega arith);
     }
