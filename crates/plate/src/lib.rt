@@ -133,16 +133,17 @@ fn sweep_all<S: Solid>(pixels: &mut [Pixel], view: &View, solid: &S, budget: u32
     ensures spent { result ≡ budget - (swept (along_ray view.now (S.Solid.body solid.now)) view.now.far budget 0 pixels.old).1 }
     ensures sound { all_sane view.now.far pixels.new ≡ true }
 {
+    let width = view.width as usize;
     let mut spent = 0;
     'sweep: for j in 0..view.height {
-        for i in 0..view.width {
-            let start = start_of(view, i, j);
-            let k = j as usize * view.width as usize + i as usize;
-            while let Pixel::Marching { t, probes } = pixels[k] {
+        let from = j as usize * width;
+        for (i, pixel) in pixels[from..from + width].iter_mut().enumerate() {
+            let start = start_of(view, i as u32, j);
+            while let Pixel::Marching { t, probes } = *pixel {
                 if spent == budget {
                     break 'sweep;
                 }
-                pixels[k] = step(solid, view, start, t, probes);
+                *pixel = step(solid, view, start, t, probes);
                 spent += 1;
             }
         }
