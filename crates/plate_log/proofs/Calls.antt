@@ -1,5 +1,5 @@
 -- What the calls on a plate's records answer and leave, as lines of a log.
-use Rattle.std.proofs.Common.{◌≡◌, ℕ, zero, suc, ◌+◌, ◌-◌, ◌*◌, ◌<◌, ◌≤◌, true, false, cond, eqb, leb, List, [], ◌∷◌, ◌++◌, length, get_or, take, drop, set, replicate, Ok, Err, Result, sym, refl, ap, ◌∙◌, mul-le-mul, arith, length-append, length-drop, take-append-drop}
+use Rattle.std.proofs.Common.{◌≡◌, ℕ, zero, suc, ◌+◌, ◌-◌, ◌*◌, ◌<◌, ◌≤◌, true, false, cond, eqb, leb, List, [], ◌∷◌, ◌++◌, length, get_or, take, drop, set, replicate, Some, None, Ok, Err, Option, Result, sym, refl, ap, ◌∙◌, mul-le-mul, arith, length-append, length-drop, take-append-drop}
 use lib.ListN.{length-replicate}
 use lib.Seq.{set-append_left}
 use Rattle.std.proofs.lemmas.List.{take_at, length-take-le, get_or-take, get_or_default, get_or-set_same}
@@ -7,11 +7,13 @@ use Rattle.std.proofs.lemmas.Bool.{cond-true, cond-false, cond_both, le-leb, lt-
 use Rattle.solid.specs.Body.{Body}
 use Rattle.march.specs.declared.pixel.Pixel.{Pixel}
 use Rattle.march.specs.declared.view.View.{View}
+use Rattle.std.specs.Option.{ok_or}
+use Rattle.march.specs.View.{place_answer}
 use Rattle.march.specs.March.{fresh, settled, marches}
 use Rattle.plate_log.specs.declared.fault.PlateFault.{PlateFault}
 use Rattle.plate_log.specs.declared.fault.PlateFault.TheVariants.{NoPixel, Shallow, StillMarching, NoRoom}
 use Rattle.plate_log.specs.Sweep.{past, swept, marching, all_sane}
-use Rattle.plate_log.specs.Log.{Call, Answer, sweeping, touching, reading, writing, counted, told, wrote, refused, line, done, place_answer, counts_of, state_of, left_in, written, image, along_ray, clear_at, area, place, has, deep, pixels}
+use Rattle.plate_log.specs.Log.{Call, Answer, sweeping, touching, reading, writing, counted, told, wrote, refused, line, done, counts_of, state_of, left_in, written, image, along_ray, clear_at, area, place, has, deep, pixels}
 use Rattle.plate_log.specs.Law.{Promise}
 use Rattle.plate_log.proofs.Lift.{did}
 use Rattle.plate_log.proofs.Sums.{swept_length, line_length}
@@ -73,16 +75,16 @@ pub record Placed (v : View) (i j k : ℕ) : Type 0 where
   pub within : (i < v.width) × (j < v.height)
   pub inside : k < area v
 
-pub placed : (v : View) (i j k : ℕ) → Ok k ≡ place_answer v i j → Placed v i j k
-placed v i j k = cond_both (has v i j) (Ok (place v i j)) (Err NoPixel) (λ (r : Result ℕ PlateFault). Ok k ≡ r → Placed v i j k)
+pub placed : (v : View) (i j k : ℕ) → Ok k ≡ ok_or (place_answer v i j) NoPixel → Placed v i j k
+placed v i j k = cond_both (has v i j) (Some (place v i j)) None (λ (o : Option ℕ). Ok k ≡ ok_or o NoPixel → Placed v i j k)
     (λ h e.
     let w = has_parts v i j h in
     let is : k ≡ place v i j = cc in
     record { is = is; has_it = h; within = w; inside = omega (arith, place_in v i j w.0 w.1) })
     (λ _ e. let z : ◌≡◌ {A = ℕ} 0 1 = cc in absurd (omega arith))
 
-unplaced : (v : View) (i j : ℕ) (f : PlateFault) → Err f ≡ place_answer v i j → (has v i j ≡ false) × (f ≡ NoPixel)
-unplaced v i j f = cond_both (has v i j) (Ok (place v i j)) (Err NoPixel) (λ (r : Result ℕ PlateFault). Err f ≡ r → (has v i j ≡ false) × (f ≡ NoPixel))
+unplaced : (v : View) (i j : ℕ) (f : PlateFault) → Err f ≡ ok_or (place_answer v i j) NoPixel → (has v i j ≡ false) × (f ≡ NoPixel)
+unplaced v i j f = cond_both (has v i j) (Some (place v i j)) None (λ (o : Option ℕ). Err f ≡ ok_or o NoPixel → (has v i j ≡ false) × (f ≡ NoPixel))
     (λ _ e. let z : ◌≡◌ {A = ℕ} 0 1 = cc in absurd (omega arith))
     (λ h e. (h, cc))
 
@@ -91,7 +93,7 @@ at_place : (n k : ℕ) (rs : List Pixel) → k < n → n ≤ length rs → get_o
 at_place n k rs h l = get_or_default rs k fresh past (omega arith) ∙ sym (get_or-take n rs k past h)
 
 -- read
-pub read_absent : (v : View) (rs : List Pixel) (i j : ℕ) (f g : PlateFault) (r : Result Pixel PlateFault) → Err f ≡ place_answer v i j → r ≡ Err g → g ≡ f → ◌≡◌ {A = Answer × List Pixel} (state_of r, rs) (done v rs (reading i j))
+pub read_absent : (v : View) (rs : List Pixel) (i j : ℕ) (f g : PlateFault) (r : Result Pixel PlateFault) → Err f ≡ ok_or (place_answer v i j) NoPixel → r ≡ Err g → g ≡ f → ◌≡◌ {A = Answer × List Pixel} (state_of r, rs) (done v rs (reading i j))
 read_absent v rs i j f g r e is was =
     let h = unplaced v i j f e in
     ap (λ (r : Result Pixel PlateFault). (state_of r, rs)) is ∙ ap (λ (f : PlateFault). (refused f, rs)) (was ∙ h.1) ∙ quiet v rs (reading i j) (refused NoPixel) (cond-false (has v i j) _ _ h.0)
@@ -103,7 +105,7 @@ read_done v rs i j k room p =
     ∙ ap (λ (k : ℕ). (told (get_or (pixels v rs) k past), pixels v rs)) (sym p.is) ∙ ap (λ (q : Pixel). (told q, pixels v rs)) (sym (at_place (area v) k rs p.inside room)))
 
 -- touch
-pub touch_absent : (v : View) (rs : List Pixel) (i j : ℕ) (b : Body) (budget : ℕ) (f g : PlateFault) (r : Result (ℕ × ℕ) PlateFault) → Err f ≡ place_answer v i j → r ≡ Err g → g ≡ f → ◌≡◌ {A = Answer × List Pixel} (counts_of r, rs) (done v rs (touching i j b budget))
+pub touch_absent : (v : View) (rs : List Pixel) (i j : ℕ) (b : Body) (budget : ℕ) (f g : PlateFault) (r : Result (ℕ × ℕ) PlateFault) → Err f ≡ ok_or (place_answer v i j) NoPixel → r ≡ Err g → g ≡ f → ◌≡◌ {A = Answer × List Pixel} (counts_of r, rs) (done v rs (touching i j b budget))
 touch_absent v rs i j b budget f g r e is was =
     let h = unplaced v i j f e in
     ap (λ (r : Result (ℕ × ℕ) PlateFault). (counts_of r, rs)) is ∙ ap (λ (f : PlateFault). (refused f, rs)) (was ∙ h.1) ∙ quiet v rs (touching i j b budget) (refused NoPixel) (cond-false (has v i j) _ _ h.0)

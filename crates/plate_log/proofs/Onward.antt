@@ -1,19 +1,23 @@
 -- A sweep and a touch on their way, with a budget left: what going on from there gives.
-use Rattle.std.proofs.Common.{◌≡◌, ℕ, suc, ◌+◌, ◌-◌, ◌*◌, ◌<◌, ◌≤◌, true, false, List, [], ◌∷◌, ◌++◌, length, get_or, take, drop, set, sym, refl, ap, ◌∙◌, append_assoc, append-nil, add-zero, arith, length-drop, take-append-drop}
+use Rattle.std.specs.Option.{IsSome}
+use Rattle.std.proofs.Common.{rules, Some, None, Option, ltb, ◌≡◌, ℕ, suc, ◌+◌, ◌-◌, ◌*◌, ◌<◌, ◌≤◌, true, false, List, [], ◌∷◌, ◌++◌, length, get_or, take, drop, set, sym, refl, ap, ◌∙◌, append_assoc, append-nil, add-zero, arith, length-drop, take-append-drop}
 use borrow.Rule.Slice.PartMut.{put_mid}
 use Rattle.std.proofs.lemmas.List.{drop_more, take_more_set, drop-set-lt, drop-drop, take_all, drop_all, length-take-le}
+use Rattle.std.proofs.lemmas.Nat.{mul-le}
 use Rattle.std.proofs.lemmas.Slice.{take-put_mid, drop-put_mid}
-use Rattle.std.proofs.lemmas.Bool.{and_parts, and_from}
+use Rattle.std.proofs.lemmas.Bool.{and_parts, and_from, cond-true, lt-ltb}
 use Rattle.lattice.specs.declared.Point.{Point}
 use Rattle.solid.specs.Body.{Body}
 use Rattle.march.specs.declared.pixel.Pixel.{Pixel}
 use Rattle.march.specs.declared.pixel.Pixel.TheVariants.{Marching, Hit, Miss}
 use Rattle.march.specs.declared.view.View.{View}
-use Rattle.march.specs.View.{along, start}
+use Rattle.lattice.specs.declared.direction.Direction.{Direction}
+use Rattle.march.specs.declared.rays.Ray.{Ray}
+use Rattle.march.specs.View.{along, start, line, line_in, line_answer, has}
 use Rattle.march.specs.March.{fresh, sane, stepped, settled, marches}
 use Rattle.march.proofs.Ray.{settled_stays}
 use Rattle.plate_log.specs.Sweep.{all_sane, swept}
-use Rattle.plate_log.specs.Log.{place, clear_at, along_ray}
+use Rattle.plate_log.specs.Log.{area, place, clear_at, along_ray, clear_along}
 use Rattle.plate_log.proofs.Place.{from_pixel}
 use Rattle.plate_log.proofs.Steps.{swept_none}
 use Rattle.plate_log.proofs.Sums.{swept_length}
@@ -121,6 +125,25 @@ row_swept v b j i budget (p ∷ ps) h =
     ap (λ (c : ℕ → ℕ). let s = settled c v.far budget p in let r = swept (along_row v b j) v.far s.1 (i + 1) ps in (s.0 ∷ r.0, r.1)) same
     ∙ ap (λ (r : List Pixel × ℕ). (s.0 ∷ r.0, r.1)) (row_swept v b j (i + 1) s.1 ps (omega arith) ∙ ap (λ (k : ℕ). swept (along_ray v b) v.far s.1 k ps) e)
 
+-- row j of the pixels, which is as long as the view is wide
+module _ (v : View) (j n : ℕ) (ps : List Pixel) (all : length ps ≡ area v) (hj : j < v.height) (wide : n ≡ v.width) where
+  pub row_ends : j * v.width + n ≤ length ps
+  row_ends = omega (arith, mul-le (j + 1) v.width v.height v.width (omega arith) (omega arith))
+
+  pub row_long : length (take n (drop (j * v.width) ps)) ≡ v.width
+  row_long = length-take-le n (drop (j * v.width) ps) (omega (arith, length-drop (j * v.width) ps, row_ends)) ∙ wide
+
+  -- each pixel of the row has come as far as the budget goes
+  pub row_done : (b : Body) (budget left : ℕ) (qs : List Pixel) (goal : List Pixel × ℕ)
+      → ◌≡◌ {A = List Pixel × ℕ} (qs, left) (swept (along_row v b j) v.far budget 0 (take n (drop (j * v.width) ps)))
+      → onward (along_ray v b) v.far (j * v.width) budget ps ≡ goal → onward (along_ray v b) v.far ((j + 1) * v.width) left (put_mid (j * v.width) n ps qs) ≡ goal
+  row_done b budget left qs goal e p =
+      let row = take n (drop (j * v.width) ps) in
+      let on : (j + 1) * v.width ≡ j * v.width + n = omega arith in
+      ap (λ (k : ℕ). onward (along_ray v b) v.far k left (put_mid (j * v.width) n ps qs)) on
+      ∙ next_row (along_ray v b) v.far (j * v.width) n budget left ps qs goal row_ends
+      (e ∙ row_swept v b j 0 budget row (omega (arith, row_long)) ∙ ap (λ (k : ℕ). swept (along_ray v b) v.far budget k row) (add-zero (j * v.width))) p
+
 -- the pixels of a list and of its parts
 module _ (far : ℕ) where
   sane_both : (ps qs : List Pixel) → all_sane far (ps ++ qs) ≡ true → (all_sane far ps ≡ true) × (all_sane far qs ≡ true)
@@ -149,6 +172,28 @@ module _ (far : ℕ) where
       (ap (all_sane far) (take-put_mid k n rs qs (k + n) (omega arith) (omega arith)) ∙ sane_append (take k rs) qs (sane_split k rs e).0 f)
       (ap (all_sane far) (drop-put_mid k n rs qs (k + n) (omega arith) (omega arith) l) ∙ (sane_split (k + n) rs e).1)
 
--- a step of pixel (i, j), asked from the start of its ray
-pub stepped_at : (v : View) (b : Body) (i j t n : ℕ) (s : Point) (q : Pixel) → s ≡ start v i j → q ≡ stepped v.far t n (b.clear (along s t v.ray)) → q ≡ stepped v.far t n (clear_at v b i j t)
-stepped_at v b i j t n s q e f = f ∙ ap (λ (p : Point). stepped v.far t n (b.clear (along p t v.ray))) e
+-- the ray of pixel (i, j)
+module _ (v : View) (i j : ℕ) (hi : i < v.width) (hj : j < v.height) (o : Option Ray) (is : line_in o ≡ line_answer v i j) where
+  some_line : line_in o ≡ Some (start v i j, v.ray, v.far)
+  some_line = is ∙ cond-true (has v i j) _ _ (and_from (ltb i v.width) (ltb j v.height) (lt-ltb i v.width hi) (lt-ltb j v.height hj))
+
+  pub has_ray : IsSome o
+  has_ray = from o some_line
+    where
+      from : (o : Option Ray) → line_in o ≡ Some (start v i j, v.ray, v.far) → IsSome o
+      from (Some r) e = search rules
+      from None e = let z : ◌≡◌ {A = ℕ} 0 1 = cc in absurd (omega arith)
+
+  pub ray_line : (r : Ray) → o ≡ Some r → line r ≡ (start v i j, v.ray, v.far)
+  ray_line r e = let q : line_in (Some r) ≡ Some (start v i j, v.ray, v.far) = ap line_in (sym e) ∙ some_line in cc
+
+-- its far, and the clearance along it
+pub ray_far : (v : View) (i j : ℕ) (r : Ray) → line r ≡ (start v i j, v.ray, v.far) → r.far ≡ v.far
+ray_far v i j r e = ap (λ l. l.2) e
+
+pub ray_clear : (v : View) (b : Body) (i j : ℕ) (r : Ray) → line r ≡ (start v i j, v.ray, v.far) → clear_along b r ≡ clear_at v b i j
+ray_clear v b i j r e = ap {B = ℕ → ℕ} (λ (l : Point × Direction × ℕ) (t : ℕ). b.clear (along l.0 t l.1)) e
+
+-- what it says of a pixel, it says of pixel (i, j)
+pub ray_settled : (v : View) (b : Body) (i j budget : ℕ) (r : Ray) (p : Pixel) → line r ≡ (start v i j, v.ray, v.far) → settled (clear_along b r) r.far budget p ≡ settled (clear_at v b i j) v.far budget p
+ray_settled v b i j budget r p e = ap (λ (l : Point × Direction × ℕ). settled (λ t. b.clear (along l.0 t l.1)) l.2 budget p) e
