@@ -67,9 +67,9 @@ impl<'a> Plate<'a> {
     {
         let deep = Deep::of(solid).ok_or(PlateFault::Shallow)?;
         let view = self.view;
-        let n = view.pixels();
-        let spent = sweep_all(&mut self.records[..n], view, &deep, budget);
-        let left = count_marching(&self.records[..n]);
+        let pixels = &mut self.records[..view.pixels()];
+        let spent = sweep_all(pixels, view, &deep, budget);
+        let left = count_marching(pixels);
         Ok((spent, left))
     }
 

@@ -75,13 +75,16 @@ pub record Placed (v : View) (i j k : ℕ) : Type 0 where
   pub within : (i < v.width) × (j < v.height)
   pub inside : k < area v
 
-pub placed : (v : View) (i j k : ℕ) → Ok k ≡ ok_or (place_answer v i j) NoPixel → Placed v i j k
-placed v i j k = cond_both (has v i j) (Some (place v i j)) None (λ (o : Option ℕ). Ok k ≡ ok_or o NoPixel → Placed v i j k)
-    (λ h e.
-    let w = has_parts v i j h in
-    let is : k ≡ place v i j = cc in
-    record { is = is; has_it = h; within = w; inside = omega (arith, place_in v i j w.0 w.1) })
-    (λ _ e. let z : ◌≡◌ {A = ℕ} 0 1 = cc in absurd (omega arith))
+pub placed : (v : View) (i j k : ℕ) (o : Option ℕ) → o ≡ place_answer v i j → Ok k ≡ ok_or o NoPixel → Placed v i j k
+placed v i j k o is e = from (e ∙ ap (λ o. ok_or o NoPixel) is)
+  where
+    from : Ok k ≡ ok_or (place_answer v i j) NoPixel → Placed v i j k
+    from = cond_both (has v i j) (Some (place v i j)) None (λ (o : Option ℕ). Ok k ≡ ok_or o NoPixel → Placed v i j k)
+        (λ h e.
+        let w = has_parts v i j h in
+        let at : k ≡ place v i j = cc in
+        record { is = at; has_it = h; within = w; inside = omega (arith, place_in v i j w.0 w.1) })
+        (λ _ e. let z : ◌≡◌ {A = ℕ} 0 1 = cc in absurd (omega arith))
 
 unplaced : (v : View) (i j : ℕ) (f : PlateFault) → Err f ≡ ok_or (place_answer v i j) NoPixel → (has v i j ≡ false) × (f ≡ NoPixel)
 unplaced v i j f = cond_both (has v i j) (Some (place v i j)) None (λ (o : Option ℕ). Err f ≡ ok_or o NoPixel → (has v i j ≡ false) × (f ≡ NoPixel))
@@ -118,21 +121,20 @@ touch_shallow v rs i j k b budget p h =
 abbrev Touched : View → List Pixel → (i j k : ℕ) → Body → ℕ → Pixel × ℕ
 Touched v rs i j k b budget = settled (clear_at v b i j) v.far budget (get_or rs k fresh)
 
-pub touch_done : (v : View) (rs qs : List Pixel) (i j k : ℕ) (b : Body) (budget spent left : ℕ) → area v ≤ length rs → Placed v i j k → 32767 ≤ b.reach
-    → qs ≡ set rs k (Touched v rs i j k b budget).0 → spent ≡ budget - (Touched v rs i j k b budget).1 → left ≡ cond (marches (get_or qs k fresh)) 1 0
-    → ◌≡◌ {A = Answer × List Pixel} (counted spent left, qs) (done v rs (touching i j b budget))
-touch_done v rs qs i j k b budget spent left room p h e f m =
+pub touch_done : (v : View) (rs : List Pixel) (q : Pixel) (i j k : ℕ) (b : Body) (budget spent left : ℕ) → area v ≤ length rs → Placed v i j k → 32767 ≤ b.reach
+    → q ≡ (Touched v rs i j k b budget).0 → spent ≡ budget - (Touched v rs i j k b budget).1 → left ≡ cond (marches q) 1 0
+    → ◌≡◌ {A = Answer × List Pixel} (counted spent left, set rs k q) (done v rs (touching i j b budget))
+touch_done v rs q i j k b budget spent left room p h e f m =
     let ps = pixels v rs in
     let s = Touched v rs i j k b budget in
-    let new : get_or qs k fresh ≡ s.0 = ap (λ (qs : List Pixel). get_or qs k fresh) e ∙ get_or-set_same rs k s.0 fresh (omega (arith, p.inside)) in
-    let given : counted spent left ≡ counted (budget - s.1) (cond (marches s.0) 1 0)
-    = ap (λ (n : ℕ). counted n left) f ∙ ap (counted (budget - s.1)) (m ∙ ap (λ (q : Pixel). cond (marches q) 1 0) new) in
-    let whole : qs ≡ set ps k s.0 ++ drop (area v) rs
-    = e ∙ ap (λ (rs : List Pixel). set rs k s.0) (sym (take-append-drop (area v) rs)) ∙ set-append_left ps (drop (area v) rs) k s.0 (omega (arith, p.inside, long_pixels v rs room)) in
+    let whole : set rs k s.0 ≡ set ps k s.0 ++ drop (area v) rs
+    = ap (λ (rs : List Pixel). set rs k s.0) (sym (take-append-drop (area v) rs)) ∙ set-append_left ps (drop (area v) rs) k s.0 (omega (arith, p.inside, long_pixels v rs room)) in
     let is : s ≡ settled (along_ray v b (place v i j)) v.far budget (get_or ps k past)
     = from_pixel (λ x y. s ≡ settled (clear_at v b x y) v.far budget (get_or rs k fresh)) v i j p.within.0 refl
     ∙ ap (settled (along_ray v b (place v i j)) v.far budget) (at_place (area v) k rs p.inside room) in
-    ap (λ (a : Answer). (a, qs)) given
+    ap (λ (left : ℕ). (counted spent left, set rs k q)) m
+    ∙ ap (λ (q : Pixel). (counted spent (cond (marches q) 1 0), set rs k q)) e
+    ∙ ap (λ (n : ℕ). (counted n (cond (marches s.0) 1 0), set rs k s.0)) f
     ∙ ap (λ (qs : List Pixel). (counted (budget - s.1) (cond (marches s.0) 1 0), qs)) whole
     ∙ ap (λ (s : Pixel × ℕ). (counted (budget - s.1) (cond (marches s.0) 1 0), set ps k s.0 ++ drop (area v) rs)) is
     ∙ ap (λ (k : ℕ). let s = settled (along_ray v b (place v i j)) v.far budget (get_or ps k past) in (counted (budget - s.1) (cond (marches s.0) 1 0), set ps k s.0 ++ drop (area v) rs)) p.is
@@ -192,7 +194,3 @@ front_room n ps rs e = omega (arith, length-append ps (drop n rs))
 
 pub front_sound : (far n : ℕ) (ps rs : List Pixel) → length ps ≡ n → all_sane far ps ≡ true → all_sane far (take n (ps ++ drop n rs)) ≡ true
 front_sound far n ps rs e s = ap (all_sane far) (take_at ps (drop n rs) n e) ∙ s
-
--- a list that differs from another at one place has what it reads there
-pub touched_set : (rs qs : List Pixel) (k : ℕ) (p : Pixel) → k < length rs → qs ≡ set rs k p → qs ≡ set rs k (get_or qs k fresh)
-touched_set rs qs k p h e = e ∙ ap (set rs k) (sym (ap (λ (qs : List Pixel). get_or qs k fresh) e ∙ get_or-set_same rs k p fresh h))
