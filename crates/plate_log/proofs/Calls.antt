@@ -55,18 +55,20 @@ quiet v rs c a e =
 pub sweep_shallow : (v : View) (rs : List Pixel) (b : Body) (budget : ℕ) → b.reach < 32767 → ◌≡◌ {A = Answer × List Pixel} (refused Shallow, rs) (done v rs (sweeping b budget))
 sweep_shallow v rs b budget h = quiet v rs (sweeping b budget) (refused Shallow) (cond-false (deep b) _ _ (lt-leb 32767 b.reach h))
 
-pub sweep_done : (v : View) (rs ps qs : List Pixel) (b : Body) (budget spent left : ℕ) → 32767 ≤ b.reach
-    → let s = swept (along_ray v b) v.far budget 0 (pixels v rs) in ps ≡ s.0 → spent ≡ budget - s.1 → left ≡ marching ps → qs ≡ ps ++ drop (area v) rs
-    → ◌≡◌ {A = Answer × List Pixel} (counted spent left, qs) (done v rs (sweeping b budget))
-sweep_done v rs ps qs b budget spent left h e f m q =
-    let s = swept (along_ray v b) v.far budget 0 (pixels v rs) in
-    let given : counted spent left ≡ counted (budget - s.1) (marching s.0) = ap (λ (n : ℕ). counted n left) f ∙ ap (counted (budget - s.1)) (m ∙ ap marching e) in
-    ap (λ (a : Answer). (a, qs)) given
-    ∙ ap (λ (qs : List Pixel). (counted (budget - s.1) (marching s.0), qs)) (q ∙ ap (λ (ps : List Pixel). ps ++ drop (area v) rs) e)
-    ∙ sym (ap (λ (l : Answer × List Pixel). (l.0, l.1 ++ drop (area v) rs)) (cond-true (deep b) _ _ (le-leb 32767 b.reach h)))
+-- the first n records, which are the pixels, as a sweep leaves them
+module _ (v : View) (rs ps : List Pixel) (b : Body) (budget n : ℕ) (all : n ≡ area v) (is : ps ≡ (swept (along_ray v b) v.far budget 0 (take n rs)).0) where
+  pub sweep_done : (spent left : ℕ) → 32767 ≤ b.reach → spent ≡ budget - (swept (along_ray v b) v.far budget 0 (take n rs)).1 → left ≡ marching ps
+      → ◌≡◌ {A = Answer × List Pixel} (counted spent left, ps ++ drop n rs) (done v rs (sweeping b budget))
+  sweep_done spent left h f m =
+      let s = swept (along_ray v b) v.far budget 0 (take n rs) in
+      ap (λ (left : ℕ). (counted spent left, ps ++ drop n rs)) m
+      ∙ ap (λ (ps : List Pixel). (counted spent (marching ps), ps ++ drop n rs)) is
+      ∙ ap (λ (spent : ℕ). (counted spent (marching s.0), s.0 ++ drop n rs)) f
+      ∙ ap (λ (n : ℕ). let s = swept (along_ray v b) v.far budget 0 (take n rs) in (counted (budget - s.1) (marching s.0), s.0 ++ drop n rs)) all
+      ∙ sym (ap (λ (l : Answer × List Pixel). (l.0, l.1 ++ drop (area v) rs)) (cond-true (deep b) _ _ (le-leb 32767 b.reach h)))
 
-pub long_swept : (v : View) (rs ps : List Pixel) (b : Body) (budget : ℕ) → area v ≤ length rs → ps ≡ (swept (along_ray v b) v.far budget 0 (pixels v rs)).0 → length ps ≡ area v
-long_swept v rs ps b budget room e = ap length e ∙ swept_length (along_ray v b) v.far budget 0 (pixels v rs) ∙ long_pixels v rs room
+  pub long_swept : area v ≤ length rs → length ps ≡ n
+  long_swept room = ap length is ∙ swept_length (along_ray v b) v.far budget 0 (take n rs) ∙ length-take-le n rs (omega arith)
 
 -- the pixel (i, j)
 pub record Placed (v : View) (i j k : ℕ) : Type 0 where
@@ -189,8 +191,8 @@ pub new_sound : (far n : ℕ) (rs old : List Pixel) → rs ≡ replicate n fresh
 new_sound far n rs old e = ap (all_sane far) (new_front n rs old e) ∙ sane_fresh far n
 
 -- what a plate always has, after its pixels were written
-pub front_room : (n : ℕ) (ps rs : List Pixel) → length ps ≡ n → n ≤ length (ps ++ drop n rs)
-front_room n ps rs e = omega (arith, length-append ps (drop n rs))
+pub front_room : (v : View) (n : ℕ) (ps rs : List Pixel) → n ≡ area v → length ps ≡ n → area v ≤ length (ps ++ drop n rs)
+front_room v n ps rs all e = omega (arith, length-append ps (drop n rs))
 
-pub front_sound : (far n : ℕ) (ps rs : List Pixel) → length ps ≡ n → all_sane far ps ≡ true → all_sane far (take n (ps ++ drop n rs)) ≡ true
-front_sound far n ps rs e s = ap (all_sane far) (take_at ps (drop n rs) n e) ∙ s
+pub front_sound : (v : View) (n : ℕ) (ps rs : List Pixel) → n ≡ area v → length ps ≡ n → all_sane v.far ps ≡ true → all_sane v.far (take (area v) (ps ++ drop n rs)) ≡ true
+front_sound v n ps rs all e s = ap (all_sane v.far) (take_at ps (drop n rs) (area v) (e ∙ all)) ∙ s
