@@ -91,8 +91,9 @@ impl<'a> Plate<'a> {
         let deep = Deep::of(solid).ok_or(PlateFault::Shallow)?;
         let ray = self.view.ray_of(i, j).unwrap();
         let records = &mut *self.records;
-        let spent = settle(&mut records[place], ray, &deep, budget);
-        let left = u32::from(is_marching(records[place]));
+        let pixel = &mut records[place];
+        let spent = settle(pixel, ray, &deep, budget);
+        let left = u32::from(is_marching(*pixel));
         Ok((spent, left))
     }
 

@@ -1,5 +1,6 @@
 -- What the calls on a plate's records answer and leave, as lines of a log.
-use Rattle.std.proofs.Common.{◌≡◌, ℕ, zero, suc, ◌+◌, ◌-◌, ◌*◌, ◌<◌, ◌≤◌, true, false, cond, eqb, leb, List, [], ◌∷◌, ◌++◌, length, get_or, take, drop, set, replicate, Some, None, Ok, Err, Option, Result, sym, refl, ap, ◌∙◌, mul-le-mul, arith, length-append, length-drop, take-append-drop}
+use mir.Val.{bool_byte}
+use Rattle.std.proofs.Common.{Bool, ◌≡◌, ℕ, zero, suc, ◌+◌, ◌-◌, ◌*◌, ◌<◌, ◌≤◌, true, false, cond, eqb, leb, List, [], ◌∷◌, ◌++◌, length, get_or, take, drop, set, replicate, Some, None, Ok, Err, Option, Result, sym, refl, ap, ◌∙◌, mul-le-mul, arith, length-append, length-drop, take-append-drop}
 use lib.ListN.{length-replicate}
 use lib.Seq.{set-append_left}
 use Rattle.std.proofs.lemmas.List.{take_at, length-take-le, get_or-take, get_or_default, get_or-set_same}
@@ -118,6 +119,11 @@ touch_absent v rs i j b budget f g r e is was =
 pub touch_shallow : (v : View) (rs : List Pixel) (i j k : ℕ) (b : Body) (budget : ℕ) → Placed v i j k → b.reach < 32767 → ◌≡◌ {A = Answer × List Pixel} (refused Shallow, rs) (done v rs (touching i j b budget))
 touch_shallow v rs i j k b budget p h =
     quiet v rs (touching i j b budget) (refused Shallow) (cond-true (has v i j) _ _ p.has_it ∙ cond-false (deep b) _ _ (lt-leb 32767 b.reach h))
+
+-- a test as the number that the code makes of it
+pub one_where : (b : Bool) → bool_byte b ≡ cond b 1 0
+one_where true = refl
+one_where false = refl
 
 -- the pixel's state and what is left of the budget, as the code has them from the record at k
 abbrev Touched : View → List Pixel → (i j k : ℕ) → Body → ℕ → Pixel × ℕ
