@@ -6,7 +6,7 @@ ghost use Rattle.plate_log.specs.Opening.{blank, opening};
 ghost use Rattle.plate_log.specs.Example.{Worked};
 ghost use Rattle.plate_log.specs.Law.{Promise, Whole};
 
-use super::{Plate, count_marching, is_marching, put_image, renew, settle, sweep_all};
+use super::{HEAD, Plate, WORD, count_marching, is_marching, put_image, renew, settle, sweep_all};
 use lattice::Point;
 use lattice::direction::Direction;
 use march::deep::Deep;
@@ -111,16 +111,15 @@ impl<'a> Plate<'a> {
         ensures line { (bytes_of result out.new, out.new) ≡ written self.now.view self.now.records.now out.old }
         ensures promise { Promise self.now.view self.now.records.now self.now.records.now (writing (length out.old)) }
     {
-        let view = self.view;
-        let n = view.pixels();
-        if count_marching(&self.records[..n]) > 0 {
+        let pixels = &self.records[..self.view.pixels()];
+        if count_marching(pixels) > 0 {
             return Err(PlateFault::StillMarching);
         }
-        let size = 4 * (2 + n);
+        let size = WORD * (HEAD + pixels.len());
         if out.len() < size {
             return Err(PlateFault::NoRoom);
         }
-        put_image(&self.records[..n], view, out);
+        put_image(pixels, self.view, out);
         Ok(size)
     }
 }

@@ -78,6 +78,8 @@ fn sweep_all<S: Solid>(
 {
     let width = view.width as usize;
     let mut spent = 0;
+    // Rows by `chunks_exact_mut`, and by `split_at_mut` of what is left, were tried: of the pixels
+    // after such a loop the checker knows nothing.
     'sweep: for j in 0..view.height {
         let from = j as usize * width;
         for (i, pixel) in pixels[from..from + width].iter_mut().enumerate() {
@@ -127,12 +129,19 @@ fn word_of(pixel: Pixel) -> u32
     }
 }
 
-/// Writes a word at the byte `at`, the least significant byte first.
-fn put(out: &mut [u8], at: usize, word: u32)
-    requires { at + 4 ≤ length out.old }
-    ensures { out.new ≡ paste out.old at (four word) 4 }
+/// The bytes of a word.
+const WORD: usize = 4;
+
+/// The words of an image before its pixels: its start and its far.
+const HEAD: usize = 2;
+
+/// Writes word k of the bytes, the least significant byte first.
+fn put(out: &mut [u8], k: usize, word: u32)
+    requires { 4 * (k + 1) ≤ length out.old }
+    ensures { out.new ≡ paste out.old (4 * k) (four word) 4 }
 {
-    out[at..at + 4].copy_from_slice(&word.to_le_bytes());
+    let at = WORD * k;
+    out[at..at + WORD].copy_from_slice(&word.to_le_bytes());
 }
 
 /// Writes the image: its start, far, and a word for each pixel.
@@ -142,8 +151,9 @@ fn put_image(pixels: &[Pixel], view: View, out: &mut [u8])
     ensures { out.new ≡ image view pixels.now ++ drop (4 * (2 + length pixels.now)) out.old }
 {
     put(out, 0, Kind::Image.word(view.width * FIRST + view.height));
-    put(out, 4, Kind::Number.word(view.far));
+    put(out, 1, Kind::Number.word(view.far));
+    // A zip with `chunks_exact_mut` was tried: of the bytes after such a loop the checker knows nothing.
     for (k, pixel) in pixels.iter().enumerate() {
-        put(out, 8 + 4 * k, word_of(*pixel));
+        put(out, HEAD + k, word_of(*pixel));
     }
 }

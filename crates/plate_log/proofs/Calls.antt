@@ -162,27 +162,31 @@ wrote_by v rs old a out e f = (
   quiet v rs (writing (length old)) a e,
 )
 
-pub write_early : (v : View) (rs : List Pixel) (old : List ℕ) → 0 < marching (pixels v rs) → Wrote v rs old (refused StillMarching) old
-write_early v rs old h = wrote_by v rs old (refused StillMarching) old (cond-false (eqb (marching (pixels v rs)) 0) _ _ (ne_eqb (marching (pixels v rs)) 0 (λ e. omega arith))) refl
+module _ (v : View) (rs ps : List Pixel) (old : List ℕ) (is : ps ≡ pixels v rs) where
+  pub write_early : 0 < marching ps → Wrote v rs old (refused StillMarching) old
+  write_early h =
+      let some : 0 < marching (pixels v rs) = omega (arith, ap marching is) in
+      wrote_by v rs old (refused StillMarching) old (cond-false (eqb (marching (pixels v rs)) 0) _ _ (ne_eqb (marching (pixels v rs)) 0 (λ e. omega arith))) refl
 
-pub write_tight : (v : View) (rs : List Pixel) (old : List ℕ) → area v ≤ length rs → marching (pixels v rs) ≡ 0 → length old < 4 * (2 + area v) → Wrote v rs old (refused NoRoom) old
-write_tight v rs old room e h =
-    let ps = pixels v rs in
-    wrote_by v rs old (refused NoRoom) old
-    (cond-true (eqb (marching ps) 0) _ _ (eq-eqb (marching ps) 0 e) ∙ cond-false (leb (4 * (2 + length ps)) (length old)) _ _ (lt-leb (4 * (2 + length ps)) (length old) (omega (arith, long_pixels v rs room)))) refl
+  none : marching ps ≡ 0 → eqb (marching (pixels v rs)) 0 ≡ true
+  none e = eq-eqb (marching (pixels v rs)) 0 (sym (ap marching is) ∙ e)
 
-pub write_done : (v : View) (rs : List Pixel) (old out : List ℕ) → area v ≤ length rs → marching (pixels v rs) ≡ 0 → 4 * (2 + area v) ≤ length old
-    → out ≡ image v (pixels v rs) ++ drop (4 * (2 + length (pixels v rs))) old → Wrote v rs old (wrote (4 * (2 + area v)) (take (4 * (2 + area v)) out)) out
-write_done v rs old out room e h f =
-    let ps = pixels v rs in
-    let n = 4 * (2 + area v) in
-    let size : 4 * (2 + length ps) ≡ n = ap (λ (m : ℕ). 4 * (2 + m)) (long_pixels v rs room) in
-    let is : out ≡ image v ps ++ drop n old = f ∙ ap (λ (m : ℕ). image v ps ++ drop m old) size in
-    let front : take n out ≡ image v ps = ap (take n) is ∙ take_at (image v ps) (drop n old) n (length_image v ps ∙ size) in
-    wrote_by v rs old (wrote n (take n out)) out
-    (cond-true (eqb (marching ps) 0) _ _ (eq-eqb (marching ps) 0 e) ∙ cond-true (leb (4 * (2 + length ps)) (length old)) _ _ (le-leb (4 * (2 + length ps)) (length old) (omega arith))
-    ∙ ap (λ (m : ℕ). (wrote m (image v ps), ps)) size ∙ ap (λ (bs : List ℕ). (wrote n bs, ps)) (sym front))
-    (is ∙ ap (λ (bs : List ℕ). bs ++ drop n old) (sym front))
+  pub write_tight : marching ps ≡ 0 → length old < 4 * (2 + length ps) → Wrote v rs old (refused NoRoom) old
+  write_tight e h =
+      let size = 4 * (2 + length (pixels v rs)) in
+      wrote_by v rs old (refused NoRoom) old
+      (cond-true (eqb (marching (pixels v rs)) 0) _ _ (none e) ∙ cond-false (leb size (length old)) _ _ (lt-leb size (length old) (omega (arith, ap length is)))) refl
+
+  pub write_done : (out : List ℕ) → marching ps ≡ 0 → 4 * (2 + length ps) ≤ length old → out ≡ image v ps ++ drop (4 * (2 + length ps)) old
+      → Wrote v rs old (wrote (4 * (2 + length ps)) (take (4 * (2 + length ps)) out)) out
+  write_done out e h f =
+      let n = 4 * (2 + length ps) in
+      let size = 4 * (2 + length (pixels v rs)) in
+      let front : take n out ≡ image v ps = ap (take n) f ∙ take_at (image v ps) (drop n old) n (length_image v ps) in
+      wrote_by v rs old (wrote n (take n out)) out
+      (cond-true (eqb (marching (pixels v rs)) 0) _ _ (none e) ∙ cond-true (leb size (length old)) _ _ (le-leb size (length old) (omega (arith, ap length is)))
+      ∙ ap (λ (qs : List Pixel). (wrote (4 * (2 + length qs)) (image v qs), pixels v rs)) (sym is) ∙ ap (λ (bs : List ℕ). (wrote n bs, pixels v rs)) (sym front))
+      (f ∙ ap (λ (bs : List ℕ). bs ++ drop n old) (sym front))
 
 -- open
 pub new_room : (n : ℕ) (rs old : List Pixel) → n ≤ length old → rs ≡ replicate n fresh ++ drop n old → n ≤ length rs

@@ -15,7 +15,7 @@ word_of-requires c =
 pub loop-k-preserved : goal.loop-k-preserved
 loop-k-preserved c =
     put_more c.args.view c.args.pixels.now c.loop-k.out c.put-2.new.out c.put-in-loop-k.new.out c.loop-k.k c.loop-k-test.true c.loop-k.invariant
-    (c.put-in-loop-k.ensures ∙ ap (λ w. paste c.loop-k.out (8 + 4 * c.loop-k.k) (four w) 4) c.word_of.ensures)
+    (c.put-in-loop-k.ensures ∙ ap (λ w. paste c.loop-k.out (4 * (2 + c.loop-k.k)) (four w) 4) c.word_of.ensures)
 
 pub returns : goal.returns
 returns c =
