@@ -87,14 +87,13 @@ impl<'a> Plate<'a> {
         ensures view { self.new.view ≡ self.old.view }
         ensures lender { self.new.records.ghost_name ≡ self.old.records.ghost_name }
     {
-        let place = self.view.place_of(i, j).ok_or(PlateFault::NoPixel)?;
+        let ray = self.view.ray_of(i, j).ok_or(PlateFault::NoPixel)?;
         let deep = Deep::of(solid).ok_or(PlateFault::Shallow)?;
-        let ray = self.view.ray_of(i, j).unwrap();
+        let place = self.view.place_of(i, j).unwrap();
         let records = &mut *self.records;
         let pixel = &mut records[place];
         let spent = settle(pixel, ray, &deep, budget);
-        let left = u32::from(is_marching(*pixel));
-        Ok((spent, left))
+        Ok((spent, u32::from(is_marching(*pixel))))
     }
 
     /// The state of one pixel.

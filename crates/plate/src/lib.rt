@@ -34,10 +34,8 @@ fn step<S: Solid>(ray: Ray, t: u32, probes: u32, solid: &Deep<'_, S>) -> Pixel
     requires { (t ≤ ray.far) × (probes ≤ t) }
     ensures { result ≡ stepped ray.far t probes ((S.Solid.body solid.now.solid.now).clear (along ray.start t ray.toward)) }
 {
-    Marching::resume(ray, t, probes)
-        .unwrap()
-        .advance(solid)
-        .into()
+    let marching = Marching::resume(ray, t, probes).unwrap();
+    marching.advance(solid).into()
 }
 
 fn is_marching(pixel: Pixel) -> bool

@@ -78,11 +78,11 @@ pub record Placed (v : View) (i j k : ℕ) : Type 0 where
   pub within : (i < v.width) × (j < v.height)
   pub inside : k < area v
 
-pub placed : (v : View) (i j k : ℕ) (o : Option ℕ) → o ≡ place_answer v i j → Ok k ≡ ok_or o NoPixel → Placed v i j k
-placed v i j k o is e = from (e ∙ ap (λ o. ok_or o NoPixel) is)
+pub placed : (v : View) (i j k : ℕ) (o : Option ℕ) → o ≡ place_answer v i j → o ≡ Some k → Placed v i j k
+placed v i j k o is e = from (sym is ∙ e)
   where
-    from : Ok k ≡ ok_or (place_answer v i j) NoPixel → Placed v i j k
-    from = cond_both (has v i j) (Some (place v i j)) None (λ (o : Option ℕ). Ok k ≡ ok_or o NoPixel → Placed v i j k)
+    from : place_answer v i j ≡ Some k → Placed v i j k
+    from = cond_both (has v i j) (Some (place v i j)) None (λ (o : Option ℕ). o ≡ Some k → Placed v i j k)
         (λ h e.
         let w = has_parts v i j h in
         let at : k ≡ place v i j = cc in

@@ -12,13 +12,13 @@ returns-in_err-place-clause-promise c =
 pub bounds-self-place : goal.bounds-self-place
 bounds-self-place c =
     let p = c.args.self.now in
-    let at = placed p.view c.args.i c.args.j c.in_ok-place.place c.place_of.result c.place_of.ensures c.in_ok-place.ensures.value in
+    let at = placed p.view c.args.i c.args.j c.in_ok-place.place c.place_of.result c.place_of.ensures c.in_ok-place.ensures.ok_part in
     omega (arith, at.inside, p.room)
 
 pub returns : goal.returns
 returns c =
     let p = c.args.self.now in
     let rs = p.records.now in
-    let at = placed p.view c.args.i c.args.j c.in_ok-place.place c.place_of.result c.place_of.ensures c.in_ok-place.ensures.value in
+    let at = placed p.view c.args.i c.args.j c.in_ok-place.place c.place_of.result c.place_of.ensures c.in_ok-place.ensures.ok_part in
     let l = read_done p.view rs c.args.i c.args.j c.in_ok-place.place p.room at in
     record { line = l; promise = promise p.view rs rs (reading c.args.i c.args.j) _ p.room l }

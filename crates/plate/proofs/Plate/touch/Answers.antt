@@ -10,8 +10,8 @@ use Rattle.plate_log.proofs.Onward.{ray_line, ray_far, ray_settled}
 use Rattle.plate_log.proofs.Calls.{promise, placed, touch_done, one_where}
 use Rattle.plate.proofs.Plate.touch.Goals as goal
 
-pub returns-in_err-place-clause-promise : goal.returns-in_err-place-clause-promise
-returns-in_err-place-clause-promise g c =
+pub returns-in_err-ray-clause-promise : goal.returns-in_err-ray-clause-promise
+returns-in_err-ray-clause-promise g c =
     let p = c.args.self.now in
     promise p.view p.records.now p.records.now (touching c.args.i c.args.j (g.S.Solid.body c.args.solid.now) c.args.budget) (counts_of c.from_residual.result) p.room (grind (arith, common_steps))
 
@@ -23,28 +23,28 @@ returns-in_err-deep-clause-promise g c =
 pub bounds-records-place : goal.bounds-records-place
 bounds-records-place g c =
     let p = c.args.self.now in
-    let at = placed p.view c.args.i c.args.j c.in_ok-place.place c.place_of.result c.place_of.ensures c.in_ok-place.ensures.value in
+    let at = placed p.view c.args.i c.args.j c.unwrap-place.result c.place_of.result c.place_of.ensures c.unwrap-place.ensures in
     omega (arith, at.inside, p.room)
 
 pub settle-spent-requires : goal.settle-spent-requires
 settle-spent-requires g c =
     let p = c.args.self.now in
     let v = p.view in
-    let k = c.in_ok-place.place in
-    let r = c.unwrap-ray.result in
-    let at = placed v c.args.i c.args.j k c.place_of.result c.place_of.ensures c.in_ok-place.ensures.value in
-    let line = ray_line v c.args.i c.args.j at.within.0 at.within.1 c.ray_of.result c.ray_of.ensures r c.unwrap-ray.ensures in
+    let k = c.unwrap-place.result in
+    let r = c.in_ok-ray.ray in
+    let at = placed v c.args.i c.args.j k c.place_of.result c.place_of.ensures c.unwrap-place.ensures in
+    let line = ray_line v c.args.i c.args.j at.within.0 at.within.1 c.ray_of.result c.ray_of.ensures r c.in_ok-ray.ensures.ok_part in
     record { sound = ap (λ far. sane far (get_or p.records.now k fresh)) (ray_far v c.args.i c.args.j r line) ∙ sound_at v.far (area v) k p.records.now p.sound at.inside p.room }
 
 pub invariant_of-self : goal.invariant_of-self
 invariant_of-self g c =
     let p = c.args.self.now in
     let v = p.view in
-    let k = c.in_ok-place.place in
-    let r = c.unwrap-ray.result in
+    let k = c.unwrap-place.result in
+    let r = c.in_ok-ray.ray in
     let q = c.settle-spent.new.pixel in
-    let at = placed v c.args.i c.args.j k c.place_of.result c.place_of.ensures c.in_ok-place.ensures.value in
-    let line = ray_line v c.args.i c.args.j at.within.0 at.within.1 c.ray_of.result c.ray_of.ensures r c.unwrap-ray.ensures in
+    let at = placed v c.args.i c.args.j k c.place_of.result c.place_of.ensures c.unwrap-place.ensures in
+    let line = ray_line v c.args.i c.args.j at.within.0 at.within.1 c.ray_of.result c.ray_of.ensures r c.in_ok-ray.ensures.ok_part in
     let sound = ap (λ far. sane far q) (sym (ray_far v c.args.i c.args.j r line)) ∙ c.settle-spent.ensures.sound in
     record { room = omega (arith, length-set p.records.now k q, p.room); sound = sound_set v.far (area v) k p.records.now q p.sound at.inside sound }
 
@@ -55,17 +55,17 @@ returns g c =
     let rs = p.records.now in
     let i = c.args.i in
     let j = c.args.j in
-    let k = c.in_ok-place.place in
+    let k = c.unwrap-place.result in
     let deep = c.in_ok-deep.deep in
     let b = g.S.Solid.body deep.solid.now in
     let same : b ≡ g.S.Solid.body c.args.solid.now = ap g.S.Solid.body (MatchOption-at_some _ _ deep c.in_ok-deep.ensures.ok_part c.of.ensures) in
-    let r = c.unwrap-ray.result in
+    let r = c.in_ok-ray.ray in
     let q = c.settle-spent.new.pixel in
-    let at = placed v i j k c.place_of.result c.place_of.ensures c.in_ok-place.ensures.value in
-    let line = ray_line v i j at.within.0 at.within.1 c.ray_of.result c.ray_of.ensures r c.unwrap-ray.ensures in
+    let at = placed v i j k c.place_of.result c.place_of.ensures c.unwrap-place.ensures in
+    let line = ray_line v i j at.within.0 at.within.1 c.ray_of.result c.ray_of.ensures r c.in_ok-ray.ensures.ok_part in
     let is = ray_settled v b i j c.args.budget r (get_or rs k fresh) line in
-    let left : c.from-left.result ≡ cond (marches q) 1 0 = c.from-left.ensures ∙ ap bool_byte c.is_marching.ensures ∙ one_where (marches q) in
-    let l = touch_done v rs q i j k b c.args.budget c.settle-spent.result c.from-left.result p.room at deep.far_enough
+    let left : c.from.result ≡ cond (marches q) 1 0 = c.from.ensures ∙ ap bool_byte c.is_marching.ensures ∙ one_where (marches q) in
+    let l = touch_done v rs q i j k b c.args.budget c.settle-spent.result c.from.result p.room at deep.far_enough
         (c.settle-spent.ensures.value ∙ ap (λ s. s.0) is) (c.settle-spent.ensures.spent ∙ ap (λ s. c.args.budget - s.1) is) left
     ∙ ap (λ (b : Body). done v rs (touching i j b c.args.budget)) same in
     record { line = l; promise = promise v rs (set rs k q) (touching i j (g.S.Solid.body c.args.solid.now) c.args.budget) _ p.room l; view = refl; lender = refl }
