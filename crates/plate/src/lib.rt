@@ -62,12 +62,7 @@ fn renew(records: &mut [Pixel], n: usize)
 
 /// Steps the pixels row by row, each until it settles, and stops the moment the budget is spent.
 /// How much was spent.
-fn sweep_all<S: Solid>(
-    pixels: &mut [Pixel],
-    view: View,
-    solid: &Deep<'_, S>,
-    budget: u32,
-) -> u32
+fn sweep_all<S: Solid>(pixels: &mut [Pixel], view: View, solid: &Deep<'_, S>, budget: u32) -> u32
     requires all { length pixels.old ≡ area view }
     requires sound { all_sane view.far pixels.old ≡ true }
     ensures value { pixels.new ≡ (swept (along_ray view (S.Solid.body solid.now.solid.now)) view.far budget 0 pixels.old).0 }

@@ -1,9 +1,9 @@
 -- What the calls on a plate's records answer and leave, as lines of a log.
 use mir.Val.{bool_byte}
-use Rattle.std.proofs.Common.{Bool, ◌≡◌, ℕ, zero, suc, ◌+◌, ◌-◌, ◌*◌, ◌<◌, ◌≤◌, true, false, cond, eqb, leb, List, [], ◌∷◌, ◌++◌, length, get_or, take, drop, set, replicate, Some, None, Ok, Err, Option, Result, sym, refl, ap, ◌∙◌, mul-le-mul, arith, length-append, length-drop, take-append-drop}
+use Rattle.std.proofs.Common.{Bool, ◌≡◌, ℕ, zero, suc, ◌+◌, ◌-◌, ◌*◌, ◌<◌, ◌≤◌, true, false, cond, eqb, leb, List, [], ◌∷◌, ◌++◌, length, get_or, take, drop, set, replicate, Some, None, Err, Option, Result, sym, refl, ap, ◌∙◌, mul-le-mul, arith, length-append, length-drop, take-append-drop}
 use lib.ListN.{length-replicate}
 use lib.Seq.{set-append_left}
-use Rattle.std.proofs.lemmas.List.{take_at, length-take-le, get_or-take, get_or_default, get_or-set_same}
+use Rattle.std.proofs.lemmas.List.{take_at, length-take-le, get_or-take, get_or_default}
 use Rattle.std.proofs.lemmas.Bool.{cond-true, cond-false, cond_both, le-leb, lt-leb, eq-eqb, ne_eqb}
 use Rattle.solid.specs.Body.{Body}
 use Rattle.march.specs.declared.pixel.Pixel.{Pixel}

@@ -1,4 +1,4 @@
-use Rattle.std.proofs.Common.{◌≡◌, ◌+◌, ◌*◌, ◌%◌, get_or, ap, ◌∙◌, arith}
+use Rattle.std.proofs.Common.{◌≡◌, ◌+◌, ◌*◌, get_or, ap, ◌∙◌, arith}
 use lib.Seq.{paste}
 use Rattle.march.specs.March.{fresh}
 use Rattle.words.specs.Words.{four, image_word, number_word}

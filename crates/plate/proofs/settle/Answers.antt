@@ -1,8 +1,8 @@
-use Rattle.std.proofs.Common.{sym, ap, ◌∙◌, arith, subst}
+use Rattle.std.proofs.Common.{sym, ap, ◌∙◌, arith}
 use Rattle.march.specs.March.{sane}
-use Rattle.march.proofs.Ray.{sane_parts, sane_on}
+use Rattle.march.proofs.Ray.{sane_on}
 use Rattle.plate_log.specs.Log.{clear_along}
-use Rattle.plate_log.proofs.Onward.{not_marching, step_on, stays_on, spent_on, counted_spent}
+use Rattle.plate_log.proofs.Onward.{not_marching, step_on, stays_on, counted_spent}
 use Rattle.plate.proofs.settle.Goals as goal
 
 pub loop-pixel-preserved : goal.loop-pixel-preserved

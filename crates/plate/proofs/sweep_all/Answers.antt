@@ -1,4 +1,4 @@
-use Rattle.std.proofs.Common.{◌≡◌, ◌+◌, ◌-◌, ◌*◌, get_or, set, sym, refl, ap, ◌∙◌, arith, length-set}
+use Rattle.std.proofs.Common.{◌+◌, ◌-◌, ◌*◌, get_or, set, sym, refl, ap, ◌∙◌, arith, length-set}
 use Rattle.std.proofs.lemmas.Nat.{mul-le}
 use Rattle.march.specs.March.{fresh, sane}
 use Rattle.march.proofs.Ray.{sane_on}
@@ -99,9 +99,9 @@ returns-then-spent-budget g c =
     let line = ray_line v i j (omega arith) c.sweep-test.true c.ray_of.result c.ray_of.ensures r c.unwrap-ray.ensures in
     let pixel = spent_on (clear_along b r) r.far spent c.args.budget q _ c.loop-pixel.invariant.2 c.if-spent-budget.true ∙ ray_settled v b i j (c.args.budget - c.loop-i.spent) r (get_or xs i fresh) line in
     let row = no_budget (along_row v b j) v.far (i + 1) left (set xs i q) _ (omega arith)
-        (next (along_row v b j) v.far i (c.args.budget - c.loop-i.spent) left xs q _ (omega arith) pixel c.loop-i.invariant.2) in
+    (next (along_row v b j) v.far i (c.args.budget - c.loop-i.spent) left xs q _ (omega arith) pixel c.loop-i.invariant.2) in
     let done = no_budget (along_ray v b) v.far ((j + 1) * v.width) left _ _ (omega arith)
-        (row_done v j n ps (omega arith) c.sweep-test.true (omega arith) b (c.args.budget - c.sweep.spent) left (set xs i q) _ row c.sweep.invariant.2) in
+    (row_done v j n ps (omega arith) c.sweep-test.true (omega arith) b (c.args.budget - c.sweep.spent) left (set xs i q) _ row c.sweep.invariant.2) in
     let o = counted_spent _ spent c.args.budget _ c.loop-pixel.invariant.0 done in
     record {
       value = o.0;

@@ -1,4 +1,4 @@
-use Rattle.std.proofs.Common.{◌≡◌, ℕ, ◌+◌, ◌-◌, ◌*◌, ◌≤◌, true}
+use Rattle.std.proofs.Common.{◌≡◌, ◌-◌, ◌*◌, ◌≤◌, true}
 use Rattle.march.specs.March.{sane, settled}
 use Rattle.plate_log.specs.Sweep.{all_sane}
 use Rattle.plate_log.specs.Log.{along_ray, clear_along}

@@ -1,10 +1,8 @@
-use Rattle.std.proofs.Common.{◌++◌, drop, replicate, ap, ◌∙◌, arith, sym}
-use Rattle.march.specs.Checks.{plain_view}
+use Rattle.std.proofs.Common.{◌++◌, drop, replicate, ap, ◌∙◌, arith}
 use Rattle.march.specs.March.{fresh}
 use Rattle.plate_log.specs.Log.{area}
 use Rattle.plate_log.proofs.Upshot.{whole}
 use Rattle.plate_log.proofs.Calls.{new_room, new_front, new_sound}
-use Rattle.plate_log.proofs.Opens.{open_done}
 use Rattle.plate.proofs.Plate.open.Goals as goal
 
 pub returns-in_err-view-clause-whole : goal.returns-in_err-view-clause-whole

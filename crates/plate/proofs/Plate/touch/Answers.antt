@@ -66,6 +66,6 @@ returns g c =
     let is = ray_settled v b i j c.args.budget r (get_or rs k fresh) line in
     let left : c.from.result ≡ cond (marches q) 1 0 = c.from.ensures ∙ ap bool_byte c.is_marching.ensures ∙ one_where (marches q) in
     let l = touch_done v rs q i j k b c.args.budget c.settle-spent.result c.from.result p.room at deep.far_enough
-        (c.settle-spent.ensures.value ∙ ap (λ s. s.0) is) (c.settle-spent.ensures.spent ∙ ap (λ s. c.args.budget - s.1) is) left
+    (c.settle-spent.ensures.value ∙ ap (λ s. s.0) is) (c.settle-spent.ensures.spent ∙ ap (λ s. c.args.budget - s.1) is) left
     ∙ ap (λ (b : Body). done v rs (touching i j b c.args.budget)) same in
     record { line = l; promise = promise v rs (set rs k q) (touching i j (g.S.Solid.body c.args.solid.now) c.args.budget) _ p.room l; view = refl; lender = refl }
