@@ -6,9 +6,10 @@ ghost use Rattle.plate_log.specs.Opening.{blank, opening};
 ghost use Rattle.plate_log.specs.Example.{Worked};
 ghost use Rattle.plate_log.specs.Law.{Promise, Whole};
 
-use super::{Plate, WORKING, count_marching, place_of, put_image, renew, settle, sweep_all};
+use super::{HEAD, Plate, WORD, count_marching, is_marching, put_image, renew, settle, sweep_all};
 use lattice::Point;
 use lattice::direction::Direction;
+use march::deep::Deep;
 use march::pixel::Pixel;
 use march::view::{View, ViewNumbers};
 use plate_log::fault::PlateFault;
@@ -47,13 +48,11 @@ impl<'a> Plate<'a> {
         ensures whole { Whole }
     {
         let view = View::new(numbers)?;
-        let n = view.width as usize * view.height as usize;
+        let n = view.pixels();
         if n > self.records.len() {
             return Err(PlateFault::TooFewRecords);
         }
-        let records = std::mem::take(&mut self.records);
-        renew(records, n);
-        self.records = records;
+        renew(self.records, n);
         self.view = view;
         Ok(())
     }
@@ -66,15 +65,11 @@ impl<'a> Plate<'a> {
         ensures view { self.new.view ≡ self.old.view }
         ensures lender { self.new.records.ghost_name ≡ self.old.records.ghost_name }
     {
-        if solid.reach() < WORKING {
-            return Err(PlateFault::Shallow);
-        }
+        let deep = Deep::of(solid).ok_or(PlateFault::Shallow)?;
         let view = self.view;
-        let n = view.width as usize * view.height as usize;
-        let records = std::mem::take(&mut self.records);
-        let spent = sweep_all(&mut records[..n], &view, solid, budget);
-        let left = count_marching(&records[..n]);
-        self.records = records;
+        let pixels = &mut self.records[..view.pixels()];
+        let spent = sweep_all(pixels, view, &deep, budget);
+        let left = count_marching(pixels);
         Ok((spent, left))
     }
 
@@ -92,15 +87,13 @@ impl<'a> Plate<'a> {
         ensures view { self.new.view ≡ self.old.view }
         ensures lender { self.new.records.ghost_name ≡ self.old.records.ghost_name }
     {
-        let view = self.view;
-        let k = place_of(&view, i, j)?;
-        if solid.reach() < WORKING {
-            return Err(PlateFault::Shallow);
-        }
-        let records = std::mem::take(&mut self.records);
-        let counts = settle(records, k, &view, i, j, solid, budget);
-        self.records = records;
-        Ok(counts)
+        let ray = self.view.ray_of(i, j).ok_or(PlateFault::NoPixel)?;
+        let deep = Deep::of(solid).ok_or(PlateFault::Shallow)?;
+        let place = self.view.place_of(i, j).unwrap();
+        let records = &mut *self.records;
+        let pixel = &mut records[place];
+        let spent = settle(pixel, ray, &deep, budget);
+        Ok((spent, u32::from(is_marching(*pixel))))
     }
 
     /// The state of one pixel.
@@ -108,8 +101,8 @@ impl<'a> Plate<'a> {
         ensures line { (state_of result, self.now.records.now) ≡ done self.now.view self.now.records.now (reading i j) }
         ensures promise { Promise self.now.view self.now.records.now self.now.records.now (reading i j) }
     {
-        let k = place_of(&self.view, i, j)?;
-        Ok(self.records[k])
+        let place = self.view.place_of(i, j).ok_or(PlateFault::NoPixel)?;
+        Ok(self.records[place])
     }
 
     /// Writes the image, once every pixel has settled, and answers its length in bytes.
@@ -117,16 +110,15 @@ impl<'a> Plate<'a> {
         ensures line { (bytes_of result out.new, out.new) ≡ written self.now.view self.now.records.now out.old }
         ensures promise { Promise self.now.view self.now.records.now self.now.records.now (writing (length out.old)) }
     {
-        let view = self.view;
-        let n = view.width as usize * view.height as usize;
-        if count_marching(&self.records[..n]) > 0 {
+        let pixels = &self.records[..self.view.pixels()];
+        if count_marching(pixels) > 0 {
             return Err(PlateFault::StillMarching);
         }
-        let size = 4 * (2 + n);
+        let size = WORD * (HEAD + pixels.len());
         if out.len() < size {
             return Err(PlateFault::NoRoom);
         }
-        put_image(&self.records[..n], &view, out);
+        put_image(pixels, self.view, out);
         Ok(size)
     }
 }

@@ -2,21 +2,20 @@
 //! read one by one, and written as an image.
 #![tactic(auto)]
 
-ghost use Rattle.std.specs.Prelude.{◌≡◌, ℕ, ◌+◌, ◌-◌, ◌*◌, ◌<◌, ◌≤◌, true, ◌++◌, length, take, drop, replicate, pos, ◌+ℤ◌, ◌*ℤ◌, if◌then◌else◌, slice_index_or, slice_set, unsigned_abs};
+ghost use Rattle.std.specs.Prelude.{◌≡◌, ℕ, ◌+◌, ◌-◌, ◌*◌, ◌≤◌, true, ◌++◌, length, take, drop, replicate};
 ghost use Rattle.std.proofs.Math.Seq.{paste};
-ghost use Rattle.lattice.specs.Space.{In};
-ghost use Rattle.march.specs.View.{along, start};
+ghost use Rattle.march.specs.View.{along};
 ghost use Rattle.march.specs.March.{fresh, sane, marches, stepped, settled};
 ghost use Rattle.words.specs.Words.{four};
 ghost use Rattle.plate_log.specs.Sweep.{all_sane, marching, swept};
-ghost use Rattle.plate_log.specs.Log.{area, place_answer, clear_at, along_ray, word, image};
+ghost use Rattle.plate_log.specs.Log.{area, along_ray, clear_along, word, image};
 
-use lattice::Point;
-use lattice::direction::Direction;
+use march::deep::Deep;
 use march::pixel::Pixel;
+use march::rays::{Marching, Ray};
 use march::view::View;
-use plate_log::fault::PlateFault;
 use solid::Solid;
+use words::kind::Kind;
 
 pub mod calls;
 
@@ -30,75 +29,19 @@ pub struct Plate<'a> {
     ghost sound: { all_sane view.far (take (area view) records.now) ≡ true },
 }
 
-/// A solid is taken where it answers at every point whose coordinates are at most this, in size.
-const WORKING: u32 = 32767;
-
-/// n steps of a part of a direction, on one axis.
-fn ahead(from: i32, n: u32, d: i32) -> i32
-    requires { (unsigned_abs from ≤ 32767) × (n ≤ 4095) × (unsigned_abs d ≤ 1) }
-    ensures { result ≡ from +ℤ (pos n *ℤ d) }
+/// A step of a pixel whose ray has come to t, with so many probes.
+fn step<S: Solid>(ray: Ray, t: u32, probes: u32, solid: &Deep<'_, S>) -> Pixel
+    requires { (t ≤ ray.far) × (probes ≤ t) }
+    ensures { result ≡ stepped ray.far t probes ((S.Solid.body solid.now.solid.now).clear (along ray.start t ray.toward)) }
 {
-    from + n as i32 * d
-}
-
-fn moved(p: Point, n: u32, d: Direction) -> Point
-    requires { In 32767 p × (n ≤ 4095) }
-    ensures { result ≡ along p n d }
-{
-    Point {
-        x: ahead(p.x, n, d.x),
-        y: ahead(p.y, n, d.y),
-        z: ahead(p.z, n, d.z),
-    }
-}
-
-/// Where the ray of pixel (i, j) starts.
-fn start_of(view: &View, i: u32, j: u32) -> Point
-    requires { (i < view.now.width) × (j < view.now.height) }
-    ensures { result ≡ start view.now i j }
-{
-    moved(moved(view.origin, i, view.across), j, view.down)
-}
-
-/// One step of a ray that marches at t: its state once it has asked the solid there.
-fn step<S: Solid>(solid: &S, view: &View, start: Point, t: u32, probes: u32) -> Pixel
-    requires near { In 16510 start }
-    requires within { (t ≤ view.now.far) × (probes ≤ t) }
-    requires reaches { 32767 ≤ (S.Solid.body solid.now).reach }
-    ensures value { result ≡ stepped view.now.far t probes ((S.Solid.body solid.now).clear (along start t view.now.ray)) }
-    ensures sound { sane view.now.far result ≡ true }
-{
-    match solid.clearance(moved(start, t, view.ray)) {
-        Ok(0) => Pixel::Hit {
-            depth: t,
-            probes: probes + 1,
-        },
-        Ok(c) if c > view.far - t => Pixel::Miss { probes: probes + 1 },
-        Ok(c) => Pixel::Marching {
-            t: t + c,
-            probes: probes + 1,
-        },
-        Err(_) => Pixel::Marching { t, probes },
-    }
-}
-
-/// The place of pixel (i, j) among the pixels, row by row.
-fn place_of(view: &View, i: u32, j: u32) -> Result<usize, PlateFault>
-    ensures { result ≡ place_answer view.now i j }
-{
-    if i >= view.width || j >= view.height {
-        return Err(PlateFault::NoPixel);
-    }
-    Ok(j as usize * view.width as usize + i as usize)
+    let marching = Marching::resume(ray, t, probes).unwrap();
+    marching.advance(solid).into()
 }
 
 fn is_marching(pixel: Pixel) -> bool
     ensures { result ≡ marches pixel }
 {
-    match pixel {
-        Pixel::Marching { .. } => true,
-        _ => false,
-    }
+    matches!(pixel, Pixel::Marching { .. })
 }
 
 /// How many of the pixels march.
@@ -106,13 +49,7 @@ fn count_marching(pixels: &[Pixel]) -> u32
     requires { length pixels.now ≤ 4096 }
     ensures { result ≡ marching pixels.now }
 {
-    let mut n = 0;
-    for pixel in pixels {
-        if is_marching(*pixel) {
-            n += 1;
-        }
-    }
-    n
+    pixels.iter().filter(|pixel| is_marching(**pixel)).count() as u32
 }
 
 /// Makes the first n records those of new rays.
@@ -125,24 +62,26 @@ fn renew(records: &mut [Pixel], n: usize)
 
 /// Steps the pixels row by row, each until it settles, and stops the moment the budget is spent.
 /// How much was spent.
-fn sweep_all<S: Solid>(pixels: &mut [Pixel], view: &View, solid: &S, budget: u32) -> u32
-    requires all { length pixels.old ≡ area view.now }
-    requires reaches { 32767 ≤ (S.Solid.body solid.now).reach }
-    requires sound { all_sane view.now.far pixels.old ≡ true }
-    ensures value { pixels.new ≡ (swept (along_ray view.now (S.Solid.body solid.now)) view.now.far budget 0 pixels.old).0 }
-    ensures spent { result ≡ budget - (swept (along_ray view.now (S.Solid.body solid.now)) view.now.far budget 0 pixels.old).1 }
-    ensures sound { all_sane view.now.far pixels.new ≡ true }
+fn sweep_all<S: Solid>(pixels: &mut [Pixel], view: View, solid: &Deep<'_, S>, budget: u32) -> u32
+    requires all { length pixels.old ≡ area view }
+    requires sound { all_sane view.far pixels.old ≡ true }
+    ensures value { pixels.new ≡ (swept (along_ray view (S.Solid.body solid.now.solid.now)) view.far budget 0 pixels.old).0 }
+    ensures spent { result ≡ budget - (swept (along_ray view (S.Solid.body solid.now.solid.now)) view.far budget 0 pixels.old).1 }
+    ensures sound { all_sane view.far pixels.new ≡ true }
 {
+    let width = view.width as usize;
     let mut spent = 0;
+    // Rows by `chunks_exact_mut`, and by `split_at_mut` of what is left, were tried: of the pixels
+    // after such a loop the checker knows nothing.
     'sweep: for j in 0..view.height {
-        for i in 0..view.width {
-            let start = start_of(view, i, j);
-            let k = j as usize * view.width as usize + i as usize;
-            while let Pixel::Marching { t, probes } = pixels[k] {
+        let from = j as usize * width;
+        for (i, pixel) in pixels[from..from + width].iter_mut().enumerate() {
+            let ray = view.ray_of(i as u32, j).unwrap();
+            while let Pixel::Marching { t, probes } = *pixel {
                 if spent == budget {
                     break 'sweep;
                 }
-                pixels[k] = step(solid, view, start, t, probes);
+                *pixel = step(ray, t, probes, solid);
                 spent += 1;
             }
         }
@@ -150,48 +89,23 @@ fn sweep_all<S: Solid>(pixels: &mut [Pixel], view: &View, solid: &S, budget: u32
     spent
 }
 
-/// Steps pixel (i, j), whose record is at k, until it settles or the budget is spent. How much was
-/// spent, and 1 where the pixel still marches, else 0.
-fn settle<S: Solid>(
-    records: &mut [Pixel],
-    k: usize,
-    view: &View,
-    i: u32,
-    j: u32,
-    solid: &S,
-    budget: u32,
-) -> (u32, u32)
-    requires there { k < length records.old }
-    requires within { (i < view.now.width) × (j < view.now.height) }
-    requires reaches { 32767 ≤ (S.Solid.body solid.now).reach }
-    requires sound { sane view.now.far (slice_index_or records.old k fresh) ≡ true }
-    ensures value { records.new ≡ slice_set records.old k (settled (clear_at view.now (S.Solid.body solid.now) i j) view.now.far budget (slice_index_or records.old k fresh)).0 }
-    ensures spent { result.0 ≡ budget - (settled (clear_at view.now (S.Solid.body solid.now) i j) view.now.far budget (slice_index_or records.old k fresh)).1 }
-    ensures left { result.1 ≡ (if marches (slice_index_or records.new k fresh) then 1 else 0) }
-    ensures sound { sane view.now.far (slice_index_or records.new k fresh) ≡ true }
+/// Steps a pixel along its ray until it settles or the budget is spent. How much was spent.
+fn settle<S: Solid>(pixel: &mut Pixel, ray: Ray, solid: &Deep<'_, S>, budget: u32) -> u32
+    requires sound { sane ray.far pixel.old ≡ true }
+    ensures value { pixel.new ≡ (settled (clear_along (S.Solid.body solid.now.solid.now) ray) ray.far budget pixel.old).0 }
+    ensures spent { result ≡ budget - (settled (clear_along (S.Solid.body solid.now.solid.now) ray) ray.far budget pixel.old).1 }
+    ensures sound { sane ray.far pixel.new ≡ true }
 {
-    let start = start_of(view, i, j);
     let mut spent = 0;
-    while let Pixel::Marching { t, probes } = records[k] {
+    while let Pixel::Marching { t, probes } = *pixel {
         if spent == budget {
-            return (spent, 1);
+            break;
         }
-        records[k] = step(solid, view, start, t, probes);
+        *pixel = step(ray, t, probes, solid);
         spent += 1;
     }
-    (spent, 0)
+    spent
 }
-
-/// Bits 31..28 of a word are its kind.
-const KIND: u32 = 0x1000_0000;
-
-const NUMBER: u32 = 2 * KIND;
-
-const IMAGE: u32 = 10 * KIND;
-
-const HIT: u32 = 11 * KIND;
-
-const MISS: u32 = 12 * KIND;
 
 /// Bits 27..16 are the first of two numbers, bits 15..0 the second.
 const FIRST: u32 = 0x1_0000;
@@ -203,28 +117,36 @@ fn word_of(pixel: Pixel) -> u32
 {
     match pixel {
         Pixel::Marching { .. } => 0,
-        Pixel::Hit { depth, probes } => HIT + (depth * FIRST + probes),
-        Pixel::Miss { probes } => MISS + probes,
+        Pixel::Hit { depth, probes } => Kind::Hit.word(depth * FIRST + probes),
+        Pixel::Miss { probes } => Kind::Miss.word(probes),
     }
 }
 
-/// Writes a word at the byte `at`, the least significant byte first.
-fn put(out: &mut [u8], at: usize, word: u32)
-    requires { at + 4 ≤ length out.old }
-    ensures { out.new ≡ paste out.old at (four word) 4 }
+/// The bytes of a word.
+const WORD: usize = 4;
+
+/// The words of an image before its pixels: its start and its far.
+const HEAD: usize = 2;
+
+/// Writes word k of the bytes, the least significant byte first.
+fn put(out: &mut [u8], k: usize, word: u32)
+    requires { 4 * (k + 1) ≤ length out.old }
+    ensures { out.new ≡ paste out.old (4 * k) (four word) 4 }
 {
-    out[at..at + 4].copy_from_slice(&word.to_le_bytes());
+    let at = WORD * k;
+    out[at..at + WORD].copy_from_slice(&word.to_le_bytes());
 }
 
 /// Writes the image: its start, far, and a word for each pixel.
-fn put_image(pixels: &[Pixel], view: &View, out: &mut [u8])
+fn put_image(pixels: &[Pixel], view: View, out: &mut [u8])
     requires room { (length pixels.now ≤ 4096) × (4 * (2 + length pixels.now) ≤ length out.old) }
-    requires sound { all_sane view.now.far pixels.now ≡ true }
-    ensures { out.new ≡ image view.now pixels.now ++ drop (4 * (2 + length pixels.now)) out.old }
+    requires sound { all_sane view.far pixels.now ≡ true }
+    ensures { out.new ≡ image view pixels.now ++ drop (4 * (2 + length pixels.now)) out.old }
 {
-    put(out, 0, IMAGE + (view.width * FIRST + view.height));
-    put(out, 4, NUMBER + view.far);
-    for k in 0..pixels.len() {
-        put(out, 8 + 4 * k, word_of(pixels[k]));
+    put(out, 0, Kind::Image.word(view.width * FIRST + view.height));
+    put(out, 1, Kind::Number.word(view.far));
+    // A zip with `chunks_exact_mut` was tried: of the bytes after such a loop the checker knows nothing.
+    for (k, pixel) in pixels.iter().enumerate() {
+        put(out, HEAD + k, word_of(*pixel));
     }
 }

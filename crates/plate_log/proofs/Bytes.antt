@@ -38,29 +38,26 @@ put_head v old one two e f =
     f ∙ ap (λ t. paste t 4 (four (number_word v.far)) 4) first ∙ put_next (four w) old (number_word v.far) 4 refl
 
 -- the pixel at k written behind those before it
-pub put_more : (v : View) (ps : List Pixel) (out old next : List ℕ) (k : ℕ) → k < length ps → out ≡ (head v ++ bytes (take k ps)) ++ drop (8 + 4 * k) old
-    → next ≡ paste out (8 + 4 * k) (four (word (get_or ps k fresh))) 4 → next ≡ (head v ++ bytes (take (k + 1) ps)) ++ drop (8 + 4 * (k + 1)) old
+pub put_more : (v : View) (ps : List Pixel) (out old next : List ℕ) (k : ℕ) → k < length ps → out ≡ (head v ++ bytes (take k ps)) ++ drop (4 * (2 + k)) old
+    → next ≡ paste out (4 * (2 + k)) (four (word (get_or ps k fresh))) 4 → next ≡ (head v ++ bytes (take (k + 1) ps)) ++ drop (4 * (2 + (k + 1))) old
 put_more v ps out old next k h i e =
     let x = get_or ps k fresh in
-    let long : length (head v ++ bytes (take k ps)) ≡ 8 + 4 * k = omega (arith, length-append (head v) (bytes (take k ps)), length_bytes (take k ps), length-take-le k ps (omega arith)) in
+    let long : length (head v ++ bytes (take k ps)) ≡ 4 * (2 + k) = omega (arith, length-append (head v) (bytes (take k ps)), length_bytes (take k ps), length-take-le k ps (omega arith)) in
     let front : (head v ++ bytes (take k ps)) ++ four (word x) ≡ head v ++ bytes (take (k + 1) ps)
     = append_assoc (head v) (bytes (take k ps)) (four (word x)) ∙ ap (λ t. head v ++ t) (sym (ap bytes (take_more ps k fresh h) ∙ bytes_append (take k ps) (x ∷ []))) in
-    let place : 8 + 4 * k + 4 ≡ 8 + 4 * (k + 1) = omega arith in
-    e ∙ ap (λ t. paste t (8 + 4 * k) (four (word x)) 4) i ∙ put_next (head v ++ bytes (take k ps)) old (word x) (8 + 4 * k) long
-    ∙ ap (λ t. t ++ drop (8 + 4 * k + 4) old) front ∙ ap (λ (n : ℕ). (head v ++ bytes (take (k + 1) ps)) ++ drop n old) place
+    let place : 4 * (2 + k) + 4 ≡ 4 * (2 + (k + 1)) = omega arith in
+    e ∙ ap (λ t. paste t (4 * (2 + k)) (four (word x)) 4) i ∙ put_next (head v ++ bytes (take k ps)) old (word x) (4 * (2 + k)) long
+    ∙ ap (λ t. t ++ drop (4 * (2 + k) + 4) old) front ∙ ap (λ (n : ℕ). (head v ++ bytes (take (k + 1) ps)) ++ drop n old) place
 
 pub put_all : (v : View) (ps : List Pixel) (out one two old : List ℕ) (k : ℕ) → length ps ≤ k → k ≤ length ps
     → one ≡ paste old 0 (four (image_word v.width v.height)) 4 → two ≡ paste one 4 (four (number_word v.far)) 4
-    → out ≡ (head v ++ bytes (take k ps)) ++ drop (8 + 4 * k) two → out ≡ image v ps ++ drop (4 * (2 + length ps)) old
+    → out ≡ (head v ++ bytes (take k ps)) ++ drop (4 * (2 + k)) two → out ≡ image v ps ++ drop (4 * (2 + length ps)) old
 put_all v ps out one two old k h l e f i =
-    let n : 8 + 4 * k ≡ 4 * (2 + length ps) = omega arith in
-    let m : 8 + 4 * k ≡ 4 * k + 8 = omega arith in
-    let tail : drop (8 + 4 * k) two ≡ drop (8 + 4 * k) old
-    = ap (λ (z : ℕ). drop z two) (m ∙ swap) ∙ sym (drop-drop (4 * k) 8 two) ∙ ap (drop (4 * k)) (ap (drop 8) (put_head v old one two e f) ∙ drop_at (head v) (drop 8 old) 8 refl) ∙ drop-drop (4 * k) 8 old ∙ sym (ap (λ (z : ℕ). drop z old) (m ∙ swap)) in
-    i ∙ ap (λ t. (head v ++ bytes t) ++ drop (8 + 4 * k) two) (take_all k ps h) ∙ ap (λ t. image v ps ++ t) tail ∙ ap (λ (m : ℕ). image v ps ++ drop m old) n
-  where
-    swap : 4 * k + 8 ≡ 8 + 4 * k
-    swap = omega arith
+    let n : k ≡ length ps = omega arith in
+    let m : 4 * (2 + k) ≡ 8 + 4 * k = omega arith in
+    let tail : drop (4 * (2 + k)) two ≡ drop (4 * (2 + k)) old
+    = ap (λ (z : ℕ). drop z two) m ∙ sym (drop-drop (4 * k) 8 two) ∙ ap (drop (4 * k)) (ap (drop 8) (put_head v old one two e f) ∙ drop_at (head v) (drop 8 old) 8 refl) ∙ drop-drop (4 * k) 8 old ∙ sym (ap (λ (z : ℕ). drop z old) m) in
+    i ∙ ap (λ t. (head v ++ bytes t) ++ drop (4 * (2 + k)) two) (take_all k ps h) ∙ ap (λ t. image v ps ++ t) tail ∙ ap (λ (m : ℕ). image v ps ++ drop (4 * (2 + m)) old) n
 
 pub length_image : (v : View) (ps : List Pixel) → length (image v ps) ≡ 4 * (2 + length ps)
 length_image v ps = omega (arith, length-append (head v) (bytes ps), length_bytes ps)

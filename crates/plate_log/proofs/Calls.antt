@@ -1,17 +1,20 @@
 -- What the calls on a plate's records answer and leave, as lines of a log.
-use Rattle.std.proofs.Common.{◌≡◌, ℕ, zero, suc, ◌+◌, ◌-◌, ◌*◌, ◌<◌, ◌≤◌, true, false, cond, eqb, leb, List, [], ◌∷◌, ◌++◌, length, get_or, take, drop, set, replicate, Ok, Err, Result, sym, refl, ap, ◌∙◌, mul-le-mul, arith, length-append, length-drop, take-append-drop}
+use mir.Val.{bool_byte}
+use Rattle.std.proofs.Common.{Bool, ◌≡◌, ℕ, zero, suc, ◌+◌, ◌-◌, ◌*◌, ◌<◌, ◌≤◌, true, false, cond, eqb, leb, List, [], ◌∷◌, ◌++◌, length, get_or, take, drop, set, replicate, Some, None, Err, Option, Result, sym, refl, ap, ◌∙◌, mul-le-mul, arith, length-append, length-drop, take-append-drop}
 use lib.ListN.{length-replicate}
 use lib.Seq.{set-append_left}
-use Rattle.std.proofs.lemmas.List.{take_at, length-take-le, get_or-take, get_or_default, get_or-set_same}
+use Rattle.std.proofs.lemmas.List.{take_at, length-take-le, get_or-take, get_or_default}
 use Rattle.std.proofs.lemmas.Bool.{cond-true, cond-false, cond_both, le-leb, lt-leb, eq-eqb, ne_eqb}
 use Rattle.solid.specs.Body.{Body}
 use Rattle.march.specs.declared.pixel.Pixel.{Pixel}
 use Rattle.march.specs.declared.view.View.{View}
+use Rattle.std.specs.Option.{ok_or}
+use Rattle.march.specs.View.{place_answer}
 use Rattle.march.specs.March.{fresh, settled, marches}
 use Rattle.plate_log.specs.declared.fault.PlateFault.{PlateFault}
 use Rattle.plate_log.specs.declared.fault.PlateFault.TheVariants.{NoPixel, Shallow, StillMarching, NoRoom}
 use Rattle.plate_log.specs.Sweep.{past, swept, marching, all_sane}
-use Rattle.plate_log.specs.Log.{Call, Answer, sweeping, touching, reading, writing, counted, told, wrote, refused, line, done, place_answer, counts_of, state_of, left_in, written, image, along_ray, clear_at, area, place, has, deep, pixels}
+use Rattle.plate_log.specs.Log.{Call, Answer, sweeping, touching, reading, writing, counted, told, wrote, refused, line, done, counts_of, state_of, left_in, written, image, along_ray, clear_at, area, place, has, deep, pixels}
 use Rattle.plate_log.specs.Law.{Promise}
 use Rattle.plate_log.proofs.Lift.{did}
 use Rattle.plate_log.proofs.Sums.{swept_length, line_length}
@@ -53,18 +56,20 @@ quiet v rs c a e =
 pub sweep_shallow : (v : View) (rs : List Pixel) (b : Body) (budget : ℕ) → b.reach < 32767 → ◌≡◌ {A = Answer × List Pixel} (refused Shallow, rs) (done v rs (sweeping b budget))
 sweep_shallow v rs b budget h = quiet v rs (sweeping b budget) (refused Shallow) (cond-false (deep b) _ _ (lt-leb 32767 b.reach h))
 
-pub sweep_done : (v : View) (rs ps qs : List Pixel) (b : Body) (budget spent left : ℕ) → 32767 ≤ b.reach
-    → let s = swept (along_ray v b) v.far budget 0 (pixels v rs) in ps ≡ s.0 → spent ≡ budget - s.1 → left ≡ marching ps → qs ≡ ps ++ drop (area v) rs
-    → ◌≡◌ {A = Answer × List Pixel} (counted spent left, qs) (done v rs (sweeping b budget))
-sweep_done v rs ps qs b budget spent left h e f m q =
-    let s = swept (along_ray v b) v.far budget 0 (pixels v rs) in
-    let given : counted spent left ≡ counted (budget - s.1) (marching s.0) = ap (λ (n : ℕ). counted n left) f ∙ ap (counted (budget - s.1)) (m ∙ ap marching e) in
-    ap (λ (a : Answer). (a, qs)) given
-    ∙ ap (λ (qs : List Pixel). (counted (budget - s.1) (marching s.0), qs)) (q ∙ ap (λ (ps : List Pixel). ps ++ drop (area v) rs) e)
-    ∙ sym (ap (λ (l : Answer × List Pixel). (l.0, l.1 ++ drop (area v) rs)) (cond-true (deep b) _ _ (le-leb 32767 b.reach h)))
+-- the first n records, which are the pixels, as a sweep leaves them
+module _ (v : View) (rs ps : List Pixel) (b : Body) (budget n : ℕ) (all : n ≡ area v) (is : ps ≡ (swept (along_ray v b) v.far budget 0 (take n rs)).0) where
+  pub sweep_done : (spent left : ℕ) → 32767 ≤ b.reach → spent ≡ budget - (swept (along_ray v b) v.far budget 0 (take n rs)).1 → left ≡ marching ps
+      → ◌≡◌ {A = Answer × List Pixel} (counted spent left, ps ++ drop n rs) (done v rs (sweeping b budget))
+  sweep_done spent left h f m =
+      let s = swept (along_ray v b) v.far budget 0 (take n rs) in
+      ap (λ (left : ℕ). (counted spent left, ps ++ drop n rs)) m
+      ∙ ap (λ (ps : List Pixel). (counted spent (marching ps), ps ++ drop n rs)) is
+      ∙ ap (λ (spent : ℕ). (counted spent (marching s.0), s.0 ++ drop n rs)) f
+      ∙ ap (λ (n : ℕ). let s = swept (along_ray v b) v.far budget 0 (take n rs) in (counted (budget - s.1) (marching s.0), s.0 ++ drop n rs)) all
+      ∙ sym (ap (λ (l : Answer × List Pixel). (l.0, l.1 ++ drop (area v) rs)) (cond-true (deep b) _ _ (le-leb 32767 b.reach h)))
 
-pub long_swept : (v : View) (rs ps : List Pixel) (b : Body) (budget : ℕ) → area v ≤ length rs → ps ≡ (swept (along_ray v b) v.far budget 0 (pixels v rs)).0 → length ps ≡ area v
-long_swept v rs ps b budget room e = ap length e ∙ swept_length (along_ray v b) v.far budget 0 (pixels v rs) ∙ long_pixels v rs room
+  pub long_swept : area v ≤ length rs → length ps ≡ n
+  long_swept room = ap length is ∙ swept_length (along_ray v b) v.far budget 0 (take n rs) ∙ length-take-le n rs (omega arith)
 
 -- the pixel (i, j)
 pub record Placed (v : View) (i j k : ℕ) : Type 0 where
@@ -73,16 +78,19 @@ pub record Placed (v : View) (i j k : ℕ) : Type 0 where
   pub within : (i < v.width) × (j < v.height)
   pub inside : k < area v
 
-pub placed : (v : View) (i j k : ℕ) → Ok k ≡ place_answer v i j → Placed v i j k
-placed v i j k = cond_both (has v i j) (Ok (place v i j)) (Err NoPixel) (λ (r : Result ℕ PlateFault). Ok k ≡ r → Placed v i j k)
-    (λ h e.
-    let w = has_parts v i j h in
-    let is : k ≡ place v i j = cc in
-    record { is = is; has_it = h; within = w; inside = omega (arith, place_in v i j w.0 w.1) })
-    (λ _ e. let z : ◌≡◌ {A = ℕ} 0 1 = cc in absurd (omega arith))
+pub placed : (v : View) (i j k : ℕ) (o : Option ℕ) → o ≡ place_answer v i j → o ≡ Some k → Placed v i j k
+placed v i j k o is e = from (sym is ∙ e)
+  where
+    from : place_answer v i j ≡ Some k → Placed v i j k
+    from = cond_both (has v i j) (Some (place v i j)) None (λ (o : Option ℕ). o ≡ Some k → Placed v i j k)
+        (λ h e.
+        let w = has_parts v i j h in
+        let at : k ≡ place v i j = cc in
+        record { is = at; has_it = h; within = w; inside = omega (arith, place_in v i j w.0 w.1) })
+        (λ _ e. let z : ◌≡◌ {A = ℕ} 0 1 = cc in absurd (omega arith))
 
-unplaced : (v : View) (i j : ℕ) (f : PlateFault) → Err f ≡ place_answer v i j → (has v i j ≡ false) × (f ≡ NoPixel)
-unplaced v i j f = cond_both (has v i j) (Ok (place v i j)) (Err NoPixel) (λ (r : Result ℕ PlateFault). Err f ≡ r → (has v i j ≡ false) × (f ≡ NoPixel))
+unplaced : (v : View) (i j : ℕ) (f : PlateFault) → Err f ≡ ok_or (place_answer v i j) NoPixel → (has v i j ≡ false) × (f ≡ NoPixel)
+unplaced v i j f = cond_both (has v i j) (Some (place v i j)) None (λ (o : Option ℕ). Err f ≡ ok_or o NoPixel → (has v i j ≡ false) × (f ≡ NoPixel))
     (λ _ e. let z : ◌≡◌ {A = ℕ} 0 1 = cc in absurd (omega arith))
     (λ h e. (h, cc))
 
@@ -91,7 +99,7 @@ at_place : (n k : ℕ) (rs : List Pixel) → k < n → n ≤ length rs → get_o
 at_place n k rs h l = get_or_default rs k fresh past (omega arith) ∙ sym (get_or-take n rs k past h)
 
 -- read
-pub read_absent : (v : View) (rs : List Pixel) (i j : ℕ) (f g : PlateFault) (r : Result Pixel PlateFault) → Err f ≡ place_answer v i j → r ≡ Err g → g ≡ f → ◌≡◌ {A = Answer × List Pixel} (state_of r, rs) (done v rs (reading i j))
+pub read_absent : (v : View) (rs : List Pixel) (i j : ℕ) (f g : PlateFault) (r : Result Pixel PlateFault) → Err f ≡ ok_or (place_answer v i j) NoPixel → r ≡ Err g → g ≡ f → ◌≡◌ {A = Answer × List Pixel} (state_of r, rs) (done v rs (reading i j))
 read_absent v rs i j f g r e is was =
     let h = unplaced v i j f e in
     ap (λ (r : Result Pixel PlateFault). (state_of r, rs)) is ∙ ap (λ (f : PlateFault). (refused f, rs)) (was ∙ h.1) ∙ quiet v rs (reading i j) (refused NoPixel) (cond-false (has v i j) _ _ h.0)
@@ -103,7 +111,7 @@ read_done v rs i j k room p =
     ∙ ap (λ (k : ℕ). (told (get_or (pixels v rs) k past), pixels v rs)) (sym p.is) ∙ ap (λ (q : Pixel). (told q, pixels v rs)) (sym (at_place (area v) k rs p.inside room)))
 
 -- touch
-pub touch_absent : (v : View) (rs : List Pixel) (i j : ℕ) (b : Body) (budget : ℕ) (f g : PlateFault) (r : Result (ℕ × ℕ) PlateFault) → Err f ≡ place_answer v i j → r ≡ Err g → g ≡ f → ◌≡◌ {A = Answer × List Pixel} (counts_of r, rs) (done v rs (touching i j b budget))
+pub touch_absent : (v : View) (rs : List Pixel) (i j : ℕ) (b : Body) (budget : ℕ) (f g : PlateFault) (r : Result (ℕ × ℕ) PlateFault) → Err f ≡ ok_or (place_answer v i j) NoPixel → r ≡ Err g → g ≡ f → ◌≡◌ {A = Answer × List Pixel} (counts_of r, rs) (done v rs (touching i j b budget))
 touch_absent v rs i j b budget f g r e is was =
     let h = unplaced v i j f e in
     ap (λ (r : Result (ℕ × ℕ) PlateFault). (counts_of r, rs)) is ∙ ap (λ (f : PlateFault). (refused f, rs)) (was ∙ h.1) ∙ quiet v rs (touching i j b budget) (refused NoPixel) (cond-false (has v i j) _ _ h.0)
@@ -112,25 +120,29 @@ pub touch_shallow : (v : View) (rs : List Pixel) (i j k : ℕ) (b : Body) (budge
 touch_shallow v rs i j k b budget p h =
     quiet v rs (touching i j b budget) (refused Shallow) (cond-true (has v i j) _ _ p.has_it ∙ cond-false (deep b) _ _ (lt-leb 32767 b.reach h))
 
+-- a test as the number that the code makes of it
+pub one_where : (b : Bool) → bool_byte b ≡ cond b 1 0
+one_where true = refl
+one_where false = refl
+
 -- the pixel's state and what is left of the budget, as the code has them from the record at k
 abbrev Touched : View → List Pixel → (i j k : ℕ) → Body → ℕ → Pixel × ℕ
 Touched v rs i j k b budget = settled (clear_at v b i j) v.far budget (get_or rs k fresh)
 
-pub touch_done : (v : View) (rs qs : List Pixel) (i j k : ℕ) (b : Body) (budget spent left : ℕ) → area v ≤ length rs → Placed v i j k → 32767 ≤ b.reach
-    → qs ≡ set rs k (Touched v rs i j k b budget).0 → spent ≡ budget - (Touched v rs i j k b budget).1 → left ≡ cond (marches (get_or qs k fresh)) 1 0
-    → ◌≡◌ {A = Answer × List Pixel} (counted spent left, qs) (done v rs (touching i j b budget))
-touch_done v rs qs i j k b budget spent left room p h e f m =
+pub touch_done : (v : View) (rs : List Pixel) (q : Pixel) (i j k : ℕ) (b : Body) (budget spent left : ℕ) → area v ≤ length rs → Placed v i j k → 32767 ≤ b.reach
+    → q ≡ (Touched v rs i j k b budget).0 → spent ≡ budget - (Touched v rs i j k b budget).1 → left ≡ cond (marches q) 1 0
+    → ◌≡◌ {A = Answer × List Pixel} (counted spent left, set rs k q) (done v rs (touching i j b budget))
+touch_done v rs q i j k b budget spent left room p h e f m =
     let ps = pixels v rs in
     let s = Touched v rs i j k b budget in
-    let new : get_or qs k fresh ≡ s.0 = ap (λ (qs : List Pixel). get_or qs k fresh) e ∙ get_or-set_same rs k s.0 fresh (omega (arith, p.inside)) in
-    let given : counted spent left ≡ counted (budget - s.1) (cond (marches s.0) 1 0)
-    = ap (λ (n : ℕ). counted n left) f ∙ ap (counted (budget - s.1)) (m ∙ ap (λ (q : Pixel). cond (marches q) 1 0) new) in
-    let whole : qs ≡ set ps k s.0 ++ drop (area v) rs
-    = e ∙ ap (λ (rs : List Pixel). set rs k s.0) (sym (take-append-drop (area v) rs)) ∙ set-append_left ps (drop (area v) rs) k s.0 (omega (arith, p.inside, long_pixels v rs room)) in
+    let whole : set rs k s.0 ≡ set ps k s.0 ++ drop (area v) rs
+    = ap (λ (rs : List Pixel). set rs k s.0) (sym (take-append-drop (area v) rs)) ∙ set-append_left ps (drop (area v) rs) k s.0 (omega (arith, p.inside, long_pixels v rs room)) in
     let is : s ≡ settled (along_ray v b (place v i j)) v.far budget (get_or ps k past)
     = from_pixel (λ x y. s ≡ settled (clear_at v b x y) v.far budget (get_or rs k fresh)) v i j p.within.0 refl
     ∙ ap (settled (along_ray v b (place v i j)) v.far budget) (at_place (area v) k rs p.inside room) in
-    ap (λ (a : Answer). (a, qs)) given
+    ap (λ (left : ℕ). (counted spent left, set rs k q)) m
+    ∙ ap (λ (q : Pixel). (counted spent (cond (marches q) 1 0), set rs k q)) e
+    ∙ ap (λ (n : ℕ). (counted n (cond (marches s.0) 1 0), set rs k s.0)) f
     ∙ ap (λ (qs : List Pixel). (counted (budget - s.1) (cond (marches s.0) 1 0), qs)) whole
     ∙ ap (λ (s : Pixel × ℕ). (counted (budget - s.1) (cond (marches s.0) 1 0), set ps k s.0 ++ drop (area v) rs)) is
     ∙ ap (λ (k : ℕ). let s = settled (along_ray v b (place v i j)) v.far budget (get_or ps k past) in (counted (budget - s.1) (cond (marches s.0) 1 0), set ps k s.0 ++ drop (area v) rs)) p.is
@@ -150,27 +162,31 @@ wrote_by v rs old a out e f = (
   quiet v rs (writing (length old)) a e,
 )
 
-pub write_early : (v : View) (rs : List Pixel) (old : List ℕ) → 0 < marching (pixels v rs) → Wrote v rs old (refused StillMarching) old
-write_early v rs old h = wrote_by v rs old (refused StillMarching) old (cond-false (eqb (marching (pixels v rs)) 0) _ _ (ne_eqb (marching (pixels v rs)) 0 (λ e. omega arith))) refl
+module _ (v : View) (rs ps : List Pixel) (old : List ℕ) (is : ps ≡ pixels v rs) where
+  pub write_early : 0 < marching ps → Wrote v rs old (refused StillMarching) old
+  write_early h =
+      let some : 0 < marching (pixels v rs) = omega (arith, ap marching is) in
+      wrote_by v rs old (refused StillMarching) old (cond-false (eqb (marching (pixels v rs)) 0) _ _ (ne_eqb (marching (pixels v rs)) 0 (λ e. omega arith))) refl
 
-pub write_tight : (v : View) (rs : List Pixel) (old : List ℕ) → area v ≤ length rs → marching (pixels v rs) ≡ 0 → length old < 4 * (2 + area v) → Wrote v rs old (refused NoRoom) old
-write_tight v rs old room e h =
-    let ps = pixels v rs in
-    wrote_by v rs old (refused NoRoom) old
-    (cond-true (eqb (marching ps) 0) _ _ (eq-eqb (marching ps) 0 e) ∙ cond-false (leb (4 * (2 + length ps)) (length old)) _ _ (lt-leb (4 * (2 + length ps)) (length old) (omega (arith, long_pixels v rs room)))) refl
+  none : marching ps ≡ 0 → eqb (marching (pixels v rs)) 0 ≡ true
+  none e = eq-eqb (marching (pixels v rs)) 0 (sym (ap marching is) ∙ e)
 
-pub write_done : (v : View) (rs : List Pixel) (old out : List ℕ) → area v ≤ length rs → marching (pixels v rs) ≡ 0 → 4 * (2 + area v) ≤ length old
-    → out ≡ image v (pixels v rs) ++ drop (4 * (2 + length (pixels v rs))) old → Wrote v rs old (wrote (4 * (2 + area v)) (take (4 * (2 + area v)) out)) out
-write_done v rs old out room e h f =
-    let ps = pixels v rs in
-    let n = 4 * (2 + area v) in
-    let size : 4 * (2 + length ps) ≡ n = ap (λ (m : ℕ). 4 * (2 + m)) (long_pixels v rs room) in
-    let is : out ≡ image v ps ++ drop n old = f ∙ ap (λ (m : ℕ). image v ps ++ drop m old) size in
-    let front : take n out ≡ image v ps = ap (take n) is ∙ take_at (image v ps) (drop n old) n (length_image v ps ∙ size) in
-    wrote_by v rs old (wrote n (take n out)) out
-    (cond-true (eqb (marching ps) 0) _ _ (eq-eqb (marching ps) 0 e) ∙ cond-true (leb (4 * (2 + length ps)) (length old)) _ _ (le-leb (4 * (2 + length ps)) (length old) (omega arith))
-    ∙ ap (λ (m : ℕ). (wrote m (image v ps), ps)) size ∙ ap (λ (bs : List ℕ). (wrote n bs, ps)) (sym front))
-    (is ∙ ap (λ (bs : List ℕ). bs ++ drop n old) (sym front))
+  pub write_tight : marching ps ≡ 0 → length old < 4 * (2 + length ps) → Wrote v rs old (refused NoRoom) old
+  write_tight e h =
+      let size = 4 * (2 + length (pixels v rs)) in
+      wrote_by v rs old (refused NoRoom) old
+      (cond-true (eqb (marching (pixels v rs)) 0) _ _ (none e) ∙ cond-false (leb size (length old)) _ _ (lt-leb size (length old) (omega (arith, ap length is)))) refl
+
+  pub write_done : (out : List ℕ) → marching ps ≡ 0 → 4 * (2 + length ps) ≤ length old → out ≡ image v ps ++ drop (4 * (2 + length ps)) old
+      → Wrote v rs old (wrote (4 * (2 + length ps)) (take (4 * (2 + length ps)) out)) out
+  write_done out e h f =
+      let n = 4 * (2 + length ps) in
+      let size = 4 * (2 + length (pixels v rs)) in
+      let front : take n out ≡ image v ps = ap (take n) f ∙ take_at (image v ps) (drop n old) n (length_image v ps) in
+      wrote_by v rs old (wrote n (take n out)) out
+      (cond-true (eqb (marching (pixels v rs)) 0) _ _ (none e) ∙ cond-true (leb size (length old)) _ _ (le-leb size (length old) (omega (arith, ap length is)))
+      ∙ ap (λ (qs : List Pixel). (wrote (4 * (2 + length qs)) (image v qs), pixels v rs)) (sym is) ∙ ap (λ (bs : List ℕ). (wrote n bs, pixels v rs)) (sym front))
+      (f ∙ ap (λ (bs : List ℕ). bs ++ drop n old) (sym front))
 
 -- open
 pub new_room : (n : ℕ) (rs old : List Pixel) → n ≤ length old → rs ≡ replicate n fresh ++ drop n old → n ≤ length rs
@@ -185,12 +201,8 @@ pub new_sound : (far n : ℕ) (rs old : List Pixel) → rs ≡ replicate n fresh
 new_sound far n rs old e = ap (all_sane far) (new_front n rs old e) ∙ sane_fresh far n
 
 -- what a plate always has, after its pixels were written
-pub front_room : (n : ℕ) (ps rs : List Pixel) → length ps ≡ n → n ≤ length (ps ++ drop n rs)
-front_room n ps rs e = omega (arith, length-append ps (drop n rs))
+pub front_room : (v : View) (n : ℕ) (ps rs : List Pixel) → n ≡ area v → length ps ≡ n → area v ≤ length (ps ++ drop n rs)
+front_room v n ps rs all e = omega (arith, length-append ps (drop n rs))
 
-pub front_sound : (far n : ℕ) (ps rs : List Pixel) → length ps ≡ n → all_sane far ps ≡ true → all_sane far (take n (ps ++ drop n rs)) ≡ true
-front_sound far n ps rs e s = ap (all_sane far) (take_at ps (drop n rs) n e) ∙ s
-
--- a list that differs from another at one place has what it reads there
-pub touched_set : (rs qs : List Pixel) (k : ℕ) (p : Pixel) → k < length rs → qs ≡ set rs k p → qs ≡ set rs k (get_or qs k fresh)
-touched_set rs qs k p h e = e ∙ ap (set rs k) (sym (ap (λ (qs : List Pixel). get_or qs k fresh) e ∙ get_or-set_same rs k p fresh h))
+pub front_sound : (v : View) (n : ℕ) (ps rs : List Pixel) → n ≡ area v → length ps ≡ n → all_sane v.far ps ≡ true → all_sane v.far (take (area v) (ps ++ drop n rs)) ≡ true
+front_sound v n ps rs all e s = ap (all_sane v.far) (take_at ps (drop n rs) (area v) (e ∙ all)) ∙ s

@@ -1,8 +1,8 @@
 -- Each line of a log is fair.
-use Rattle.std.proofs.Common.{◌≡◌, ℕ, ◌+◌, ◌-◌, ◌*◌, ◌<◌, Bool, true, false, cond, eqb, ltb, leb, List, [], ◌∷◌, length, get_or, set, sym, refl, ap, ◌∙◌, inl, inr, arith, length-set}
+use Rattle.std.proofs.Common.{◌≡◌, ℕ, ◌+◌, ◌-◌, ◌*◌, ◌<◌, true, false, cond, eqb, ltb, leb, List, [], ◌∷◌, length, get_or, set, sym, refl, ap, ◌∙◌, inl, inr, arith, length-set}
 use mathlib.Core.Path.{subst⁻¹}
 use Rattle.std.proofs.lemmas.List.{get_or-set_same, get_or-set_other}
-use Rattle.std.proofs.lemmas.Bool.{cond_both, cond-true, leb-true, leb-false, ltb-true, lt-ltb, eqb-true, eqb-false, both_ways}
+use Rattle.std.proofs.lemmas.Bool.{and_parts, and_from, cond_both, leb-true, leb-false, ltb-true, lt-ltb, eqb-true, eqb-false, both_ways}
 use Rattle.solid.specs.Body.{Body}
 use Rattle.march.specs.declared.pixel.Pixel.{Pixel}
 use Rattle.march.specs.declared.view.View.{View}
@@ -38,12 +38,10 @@ imaged v ps known none =
     }
 
 pub has_parts : (v : View) (i j : ℕ) → has v i j ≡ true → Inside v i j
-has_parts v i j = cond_both (ltb i v.width) (ltb j v.height) false (λ (x : Bool). x ≡ true → Inside v i j)
-    (λ e f. (ltb-true i v.width e, ltb-true j v.height f))
-    (λ _ f. absurd (both_ways true (sym f) refl))
+has_parts v i j e = let h = and_parts (ltb i v.width) (ltb j v.height) e in (ltb-true i v.width h.0, ltb-true j v.height h.1)
 
 has_none : {A : Type 0} (v : View) (i j : ℕ) → has v i j ≡ false → Inside v i j → A
-has_none v i j e h = absurd (both_ways (has v i j) e (cond-true (ltb i v.width) (ltb j v.height) false (lt-ltb i v.width h.0) ∙ lt-ltb j v.height h.1))
+has_none v i j e h = absurd (both_ways (has v i j) e (and_from (ltb i v.width) (ltb j v.height) (lt-ltb i v.width h.0) (lt-ltb j v.height h.1)))
 
 not_in : {A : Type 0} (v : View) (i j : ℕ) → Inside v i j → Outside v i j → A
 not_in v i j h (inl a) = absurd (omega arith)

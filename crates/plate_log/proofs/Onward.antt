@@ -1,18 +1,26 @@
--- A sweep that has come to the place k, and a touch of the pixel at k, with a budget left: what going on from there gives.
-use Rattle.std.proofs.Common.{◌≡◌, ℕ, suc, ◌+◌, ◌-◌, ◌<◌, ◌≤◌, false, List, [], ◌∷◌, ◌++◌, length, get_or, take, drop, set, sym, refl, ap, ◌∙◌, append_assoc, append-nil, arith, take-append-drop}
-use Rattle.std.proofs.lemmas.List.{drop_more, take_more, take-set, drop-set, take_all, drop_all, set-set, set-get_or, get_or-set_same}
+-- A sweep and a touch on their way, with a budget left: what going on from there gives.
+use Rattle.std.specs.Option.{IsSome}
+use Rattle.std.proofs.Common.{rules, Some, None, Option, ltb, ◌≡◌, ℕ, suc, ◌+◌, ◌-◌, ◌*◌, ◌<◌, ◌≤◌, true, false, List, [], ◌∷◌, ◌++◌, length, get_or, take, drop, set, sym, refl, ap, ◌∙◌, append_assoc, append-nil, add-zero, arith, length-drop, take-append-drop}
+use borrow.Rule.Slice.PartMut.{put_mid}
+use Rattle.std.proofs.lemmas.List.{drop_more, take_more_set, drop-set-lt, drop-drop, take_all, drop_all, length-take-le}
+use Rattle.std.proofs.lemmas.Nat.{mul-le}
+use Rattle.std.proofs.lemmas.Slice.{take-put_mid, drop-put_mid}
+use Rattle.std.proofs.lemmas.Bool.{and_parts, and_from, cond-true, lt-ltb}
 use Rattle.lattice.specs.declared.Point.{Point}
 use Rattle.solid.specs.Body.{Body}
 use Rattle.march.specs.declared.pixel.Pixel.{Pixel}
 use Rattle.march.specs.declared.pixel.Pixel.TheVariants.{Marching, Hit, Miss}
 use Rattle.march.specs.declared.view.View.{View}
-use Rattle.march.specs.View.{along, start}
-use Rattle.march.specs.March.{fresh, stepped, settled, marches}
+use Rattle.lattice.specs.declared.direction.Direction.{Direction}
+use Rattle.march.specs.declared.rays.Ray.{Ray}
+use Rattle.march.specs.View.{along, start, line, line_in, line_answer, has}
+use Rattle.march.specs.March.{fresh, sane, stepped, settled, marches}
 use Rattle.march.proofs.Ray.{settled_stays}
-use Rattle.plate_log.specs.Sweep.{swept}
-use Rattle.plate_log.specs.Log.{place, clear_at, along_ray}
+use Rattle.plate_log.specs.Sweep.{all_sane, swept}
+use Rattle.plate_log.specs.Log.{area, place, clear_at, along_ray, clear_along}
 use Rattle.plate_log.proofs.Place.{from_pixel}
 use Rattle.plate_log.proofs.Steps.{swept_none}
+use Rattle.plate_log.proofs.Sums.{swept_length}
 
 -- a pixel's state that is none of a march
 pub not_marching : (p : Pixel) → ((t n : ℕ) → p ≡ Marching t n → ⊥) → marches p ≡ false
@@ -20,101 +28,172 @@ not_marching (Marching t n) h = absurd (h t n refl)
 not_marching (Hit d n) h = refl
 not_marching (Miss n) h = refl
 
+-- one pixel
+module _ (clear : ℕ → ℕ) (far spent budget : ℕ) (p : Pixel) (goal : Pixel × ℕ) (so_far : settled clear far (budget - spent) p ≡ goal) where
+  -- it takes a step
+  pub step_on : (t n : ℕ) (q : Pixel) → p ≡ Marching t n → spent < budget → q ≡ stepped far t n (clear t) → settled clear far (budget - (spent + 1)) q ≡ goal
+  step_on t n q m l e =
+      let b = budget - (spent + 1) in
+      let more : suc b ≡ budget - spent = omega arith in
+      ap (settled clear far b) e ∙ ap (settled clear far (suc b)) (sym m) ∙ ap (λ (c : ℕ). settled clear far c p) more ∙ so_far
+
+  -- it has settled
+  pub stays_on : marches p ≡ false → ◌≡◌ {A = Pixel × ℕ} (p, budget - spent) goal
+  stays_on m = sym (settled_stays clear far (budget - spent) p m) ∙ so_far
+
+  -- the budget is spent
+  pub spent_on : spent ≡ budget → ◌≡◌ {A = Pixel × ℕ} (p, budget - spent) goal
+  spent_on e =
+      let z : budget - spent ≡ 0 = omega arith in
+      ap (λ (b : ℕ). (p, b)) z ∙ sym (ap (λ (b : ℕ). settled clear far b p) z) ∙ so_far
+
+-- the budget as the code counts it: what is spent
+pub counted_spent : {A : Type 0} (x : A) (spent budget : ℕ) (goal : A × ℕ) → spent ≤ budget → ◌≡◌ {A = A × ℕ} (x, budget - spent) goal → (x ≡ goal.0) × (spent ≡ budget - goal.1)
+counted_spent x spent budget goal l q = let n : budget - spent ≡ goal.1 = ap (λ s. s.1) q in (ap (λ s. s.0) q, omega arith)
+
+-- many pixels
 abbrev joined : List Pixel → List Pixel × ℕ → List Pixel × ℕ
 joined front s = (front ++ s.0, s.1)
 
--- the budget as the code counts it: what is spent
-abbrev pub Over : (rs : List Pixel) (spent budget : ℕ) → List Pixel × ℕ → Type 0
-Over rs spent budget goal = (rs ≡ goal.0) × (spent ≡ budget - goal.1)
-
-over : (rs : List Pixel) (spent budget : ℕ) (goal : List Pixel × ℕ) → spent ≤ budget → ◌≡◌ {A = List Pixel × ℕ} (rs, budget - spent) goal → Over rs spent budget goal
-over rs spent budget goal l q = let n : budget - spent ≡ goal.1 = ap (λ s. s.1) q in (ap (λ s. s.0) q, omega arith)
-
-none_left : {A : Type 0} (f : ℕ → A) (spent budget : ℕ) → spent ≡ budget → f (budget - spent) ≡ f 0
-none_left f spent budget e = let z : budget - spent ≡ 0 = omega arith in ap f z
-
--- a sweep
 module _ (clear : ℕ → ℕ → ℕ) (far : ℕ) where
+  swept_append : (b k : ℕ) (ps qs : List Pixel) → swept clear far b k (ps ++ qs) ≡ (let s = swept clear far b k ps in joined s.0 (swept clear far s.1 (k + length ps) qs))
+  swept_append b k [] qs = ap (λ (j : ℕ). swept clear far b j qs) (sym (add-zero k))
+  swept_append b k (p ∷ ps) qs =
+      let s = settled (clear k) far b p in
+      let r = swept clear far s.1 (k + 1) ps in
+      let e : k + 1 + length ps ≡ k + suc (length ps) = omega arith in
+      ap (joined (s.0 ∷ [])) (swept_append s.1 (k + 1) ps qs) ∙ ap (λ (j : ℕ). joined (s.0 ∷ r.0) (swept clear far r.1 j qs)) e
+
   abbrev pub onward : ℕ → ℕ → List Pixel → List Pixel × ℕ
   onward k b rs = joined (take k rs) (swept clear far b k (drop k rs))
 
   abbrev after : ℕ → List Pixel → Pixel × ℕ → List Pixel × ℕ
   after k t w = (w.0 ∷ (swept clear far w.1 (k + 1) t).0, (swept clear far w.1 (k + 1) t).1)
 
-  -- the pixel at k takes a step
-  pub turn : (k spent budget t n : ℕ) (rs qs : List Pixel) (goal : List Pixel × ℕ) → k < length rs → get_or rs k fresh ≡ Marching t n → spent < budget
-      → qs ≡ set rs k (stepped far t n (clear k t)) → onward k (budget - spent) rs ≡ goal → onward k (budget - (spent + 1)) qs ≡ goal
-  turn k spent budget t n rs qs goal h m l e p =
-      let b = budget - (spent + 1) in
-      let y = stepped far t n (clear k t) in
+  -- the pixel at k has come as far as the budget goes
+  pub next : (k b left : ℕ) (rs : List Pixel) (q : Pixel) (goal : List Pixel × ℕ) → k < length rs → ◌≡◌ {A = Pixel × ℕ} (q, left) (settled (clear k) far b (get_or rs k fresh)) → onward k b rs ≡ goal → onward (k + 1) left (set rs k q) ≡ goal
+  next k b left rs q goal h e p =
       let rest = drop (k + 1) rs in
-      let more : suc b ≡ budget - spent = omega arith in
-      ap (onward k b) e
-      ∙ ap (λ l. joined l (swept clear far b k (drop k (set rs k y)))) (take-set rs k y)
-      ∙ ap (λ l. joined (take k rs) (swept clear far b k l)) (drop-set rs k y h)
-      ∙ ap (λ p. joined (take k rs) (after k rest (settled (clear k) far (suc b) p))) (sym m)
-      ∙ ap (λ l. joined (take k rs) (swept clear far (suc b) k l)) (sym (drop_more rs k fresh h))
-      ∙ ap (λ c. onward k c rs) more ∙ p
-
-  -- the pixel at k has settled
-  pub next : (k k' b : ℕ) (rs : List Pixel) (goal : List Pixel × ℕ) → k < length rs → marches (get_or rs k fresh) ≡ false → k' ≡ k + 1 → onward k b rs ≡ goal → onward k' b rs ≡ goal
-  next k k' b rs goal h m e p =
-      let x = get_or rs k fresh in
-      let s = swept clear far b (k + 1) (drop (k + 1) rs) in
-      ap (λ c. onward c b rs) e
-      ∙ ap (λ l. joined l s) (take_more rs k fresh h)
-      ∙ ap (λ l. (l, s.1)) (append_assoc (take k rs) (x ∷ []) s.0)
-      ∙ ap (λ z. joined (take k rs) (after k (drop (k + 1) rs) z)) (sym (settled_stays (clear k) far b x m))
+      let s = swept clear far left (k + 1) rest in
+      ap (λ l. joined l (swept clear far left (k + 1) (drop (k + 1) (set rs k q)))) (take_more_set rs k q h)
+      ∙ ap (λ l. joined (take k rs ++ (q ∷ [])) (swept clear far left (k + 1) l)) (drop-set-lt (k + 1) rs k q (omega arith))
+      ∙ ap (λ l. (l, s.1)) (append_assoc (take k rs) (q ∷ []) s.0)
+      ∙ ap (λ z. joined (take k rs) (after k rest z)) e
       ∙ ap (λ l. joined (take k rs) (swept clear far b k l)) (sym (drop_more rs k fresh h))
       ∙ p
 
+  -- and so has each of the n pixels from k on
+  pub next_row : (k n b left : ℕ) (rs qs : List Pixel) (goal : List Pixel × ℕ) → k + n ≤ length rs → ◌≡◌ {A = List Pixel × ℕ} (qs, left) (swept clear far b k (take n (drop k rs))) → onward k b rs ≡ goal → onward (k + n) left (put_mid k n rs qs) ≡ goal
+  next_row k n b left rs qs goal h e p =
+      let row = take n (drop k rs) in
+      let rest = drop (k + n) rs in
+      let wide : length row ≡ n = length-take-le n (drop k rs) (omega (arith, length-drop k rs)) in
+      let long : length qs ≡ n = ap (λ (s : List Pixel × ℕ). length s.0) e ∙ swept_length clear far b k row ∙ wide in
+      let s = swept clear far left (k + n) rest in
+      let split : row ++ rest ≡ drop k rs = ap (λ l. row ++ l) (sym (drop-drop n k rs)) ∙ take-append-drop n (drop k rs) in
+      ap (λ l. joined l (swept clear far left (k + n) (drop (k + n) (put_mid k n rs qs)))) (take-put_mid k n rs qs (k + n) (omega arith) (omega arith))
+      ∙ ap (λ l. joined (take k rs ++ qs) (swept clear far left (k + n) l)) (drop-put_mid k n rs qs (k + n) (omega arith) (omega arith) long)
+      ∙ ap (λ l. (l, s.1)) (append_assoc (take k rs) qs s.0)
+      ∙ ap (λ (z : List Pixel × ℕ). joined (take k rs) (joined z.0 (swept clear far z.1 (k + n) rest))) e
+      ∙ ap (λ (j : ℕ). let z = swept clear far b k row in joined (take k rs) (joined z.0 (swept clear far z.1 (k + j) rest))) (sym wide)
+      ∙ ap (joined (take k rs)) (sym (swept_append b k row rest))
+      ∙ ap (λ l. joined (take k rs) (swept clear far b k l)) split
+      ∙ p
+
+  -- every pixel has
+  pub no_more : (k b : ℕ) (rs : List Pixel) (goal : List Pixel × ℕ) → length rs ≤ k → onward k b rs ≡ goal → ◌≡◌ {A = List Pixel × ℕ} (rs, b) goal
+  no_more k b rs goal h p =
+      sym (ap (λ l. joined (take k rs) (swept clear far b k l)) (drop_all k rs h) ∙ ap (λ l. (l, b)) (append-nil (take k rs) ∙ take_all k rs h)) ∙ p
+
   -- the budget is spent
-  pub over_spent : (k spent budget : ℕ) (rs : List Pixel) (goal : List Pixel × ℕ) → spent ≡ budget → onward k (budget - spent) rs ≡ goal → Over rs spent budget goal
-  over_spent k spent budget rs goal e p =
-      over rs spent budget goal (omega arith)
-      (none_left (λ (b : ℕ). (rs, b)) spent budget e
+  pub no_budget : (k b : ℕ) (rs : List Pixel) (goal : List Pixel × ℕ) → b ≡ 0 → onward k b rs ≡ goal → ◌≡◌ {A = List Pixel × ℕ} (rs, b) goal
+  no_budget k b rs goal z p =
+      ap (λ (b : ℕ). (rs, b)) z
       ∙ ap (λ l. (l, 0)) (sym (take-append-drop k rs)) ∙ ap (joined (take k rs)) (sym (swept_none clear far k (drop k rs)))
-      ∙ sym (none_left (λ (b : ℕ). onward k b rs) spent budget e) ∙ p)
+      ∙ sym (ap (λ (b : ℕ). onward k b rs) z) ∙ p
 
-  -- every pixel was settled
-  pub over_end : (k spent budget : ℕ) (rs : List Pixel) (goal : List Pixel × ℕ) → length rs ≤ k → spent ≤ budget → onward k (budget - spent) rs ≡ goal → Over rs spent budget goal
-  over_end k spent budget rs goal h l p =
-      let b = budget - spent in
-      over rs spent budget goal l
-      (sym (ap (λ l. joined (take k rs) (swept clear far b k l)) (drop_all k rs h) ∙ ap (λ l. (l, b)) (append-nil (take k rs) ∙ take_all k rs h)) ∙ p)
+-- the pixels of row j, each by the clearance along its own ray
+abbrev pub along_row : View → Body → (j i t : ℕ) → ℕ
+along_row v b j i t = clear_at v b i j t
 
--- a touch
-module _ (clear : ℕ → ℕ) (far k : ℕ) where
-  abbrev pub onto : ℕ → List Pixel → List Pixel × ℕ
-  onto b rs = let s = settled clear far b (get_or rs k fresh) in (set rs k s.0, s.1)
+pub row_swept : (v : View) (b : Body) (j i budget : ℕ) (ps : List Pixel) → i + length ps ≤ v.width → swept (along_row v b j) v.far budget i ps ≡ swept (along_ray v b) v.far budget (place v i j) ps
+row_swept v b j i budget [] h = refl
+row_swept v b j i budget (p ∷ ps) h =
+    let same : clear_at v b i j ≡ along_ray v b (place v i j) = from_pixel (λ x y. clear_at v b i j ≡ clear_at v b x y) v i j (omega arith) refl in
+    let s = settled (along_ray v b (place v i j)) v.far budget p in
+    let e : place v (i + 1) j ≡ place v i j + 1 = omega arith in
+    ap (λ (c : ℕ → ℕ). let s = settled c v.far budget p in let r = swept (along_row v b j) v.far s.1 (i + 1) ps in (s.0 ∷ r.0, r.1)) same
+    ∙ ap (λ (r : List Pixel × ℕ). (s.0 ∷ r.0, r.1)) (row_swept v b j (i + 1) s.1 ps (omega arith) ∙ ap (λ (k : ℕ). swept (along_ray v b) v.far s.1 k ps) e)
 
-  pub touch_turn : (spent budget t n : ℕ) (rs qs : List Pixel) (goal : List Pixel × ℕ) → k < length rs → get_or rs k fresh ≡ Marching t n → spent < budget
-      → qs ≡ set rs k (stepped far t n (clear t)) → onto (budget - spent) rs ≡ goal → onto (budget - (spent + 1)) qs ≡ goal
-  touch_turn spent budget t n rs qs goal h m l e p =
-      let b = budget - (spent + 1) in
-      let y = stepped far t n (clear t) in
-      let s = settled clear far b y in
-      let more : suc b ≡ budget - spent = omega arith in
-      ap (onto b) e
-      ∙ ap (λ x. (set (set rs k y) k (settled clear far b x).0, (settled clear far b x).1)) (get_or-set_same rs k y fresh h)
-      ∙ ap (λ l. (l, s.1)) (set-set rs k y s.0)
-      ∙ ap (λ x. (set rs k (settled clear far (suc b) x).0, (settled clear far (suc b) x).1)) (sym m)
-      ∙ ap (λ c. onto c rs) more ∙ p
+-- row j of the pixels, which is as long as the view is wide
+module _ (v : View) (j n : ℕ) (ps : List Pixel) (all : length ps ≡ area v) (hj : j < v.height) (wide : n ≡ v.width) where
+  pub row_ends : j * v.width + n ≤ length ps
+  row_ends = omega (arith, mul-le (j + 1) v.width v.height v.width (omega arith) (omega arith))
 
-  pub touch_settled : (spent budget : ℕ) (rs : List Pixel) (goal : List Pixel × ℕ) → marches (get_or rs k fresh) ≡ false → spent ≤ budget → onto (budget - spent) rs ≡ goal → Over rs spent budget goal
-  touch_settled spent budget rs goal m l p =
-      let b = budget - spent in
-      over rs spent budget goal l
-      (ap (λ l. (l, b)) (sym (set-get_or rs k fresh)) ∙ ap (λ (s : Pixel × ℕ). (set rs k s.0, s.1)) (sym (settled_stays clear far b (get_or rs k fresh) m)) ∙ p)
+  pub row_long : length (take n (drop (j * v.width) ps)) ≡ v.width
+  row_long = length-take-le n (drop (j * v.width) ps) (omega (arith, length-drop (j * v.width) ps, row_ends)) ∙ wide
 
-  pub touch_spent : (spent budget : ℕ) (rs : List Pixel) (goal : List Pixel × ℕ) → spent ≡ budget → onto (budget - spent) rs ≡ goal → Over rs spent budget goal
-  touch_spent spent budget rs goal e p =
-      over rs spent budget goal (omega arith)
-      (none_left (λ (b : ℕ). (rs, b)) spent budget e ∙ ap (λ l. (l, 0)) (sym (set-get_or rs k fresh)) ∙ sym (none_left (λ (b : ℕ). onto b rs) spent budget e) ∙ p)
+  -- each pixel of the row has come as far as the budget goes
+  pub row_done : (b : Body) (budget left : ℕ) (qs : List Pixel) (goal : List Pixel × ℕ)
+      → ◌≡◌ {A = List Pixel × ℕ} (qs, left) (swept (along_row v b j) v.far budget 0 (take n (drop (j * v.width) ps)))
+      → onward (along_ray v b) v.far (j * v.width) budget ps ≡ goal → onward (along_ray v b) v.far ((j + 1) * v.width) left (put_mid (j * v.width) n ps qs) ≡ goal
+  row_done b budget left qs goal e p =
+      let row = take n (drop (j * v.width) ps) in
+      let on : (j + 1) * v.width ≡ j * v.width + n = omega arith in
+      ap (λ (k : ℕ). onward (along_ray v b) v.far k left (put_mid (j * v.width) n ps qs)) on
+      ∙ next_row (along_ray v b) v.far (j * v.width) n budget left ps qs goal row_ends
+      (e ∙ row_swept v b j 0 budget row (omega (arith, row_long)) ∙ ap (λ (k : ℕ). swept (along_ray v b) v.far budget k row) (add-zero (j * v.width))) p
 
--- a step of pixel (i, j), asked from the start of its ray
-pub stepped_at : (v : View) (b : Body) (i j t n : ℕ) (s : Point) (q : Pixel) → s ≡ start v i j → q ≡ stepped v.far t n (b.clear (along s t v.ray)) → q ≡ stepped v.far t n (clear_at v b i j t)
-stepped_at v b i j t n s q e f = f ∙ ap (λ (p : Point). stepped v.far t n (b.clear (along p t v.ray))) e
+-- the pixels of a list and of its parts
+module _ (far : ℕ) where
+  sane_both : (ps qs : List Pixel) → all_sane far (ps ++ qs) ≡ true → (all_sane far ps ≡ true) × (all_sane far qs ≡ true)
+  sane_both [] qs e = (refl, e)
+  sane_both (p ∷ ps) qs e =
+      let h = and_parts (sane far p) (all_sane far (ps ++ qs)) e in
+      let r = sane_both ps qs h.1 in
+      (and_from (sane far p) (all_sane far ps) h.0 r.0, r.1)
 
-pub stepped_place : (v : View) (b : Body) (i j t n : ℕ) (s : Point) (q : Pixel) → i < v.width → s ≡ start v i j → q ≡ stepped v.far t n (b.clear (along s t v.ray)) → q ≡ stepped v.far t n (along_ray v b (place v i j) t)
-stepped_place v b i j t n s q h e f = from_pixel (λ x y. q ≡ stepped v.far t n (clear_at v b x y t)) v i j h (stepped_at v b i j t n s q e f)
+  sane_append : (ps qs : List Pixel) → all_sane far ps ≡ true → all_sane far qs ≡ true → all_sane far (ps ++ qs) ≡ true
+  sane_append [] qs e f = f
+  sane_append (p ∷ ps) qs e f =
+      let h = and_parts (sane far p) (all_sane far ps) e in
+      and_from (sane far p) (all_sane far (ps ++ qs)) h.0 (sane_append ps qs h.1 f)
+
+  sane_split : (n : ℕ) (rs : List Pixel) → all_sane far rs ≡ true → (all_sane far (take n rs) ≡ true) × (all_sane far (drop n rs) ≡ true)
+  sane_split n rs e = sane_both (take n rs) (drop n rs) (ap (all_sane far) (take-append-drop n rs) ∙ e)
+
+  pub sane_row : (k n : ℕ) (rs : List Pixel) → all_sane far rs ≡ true → all_sane far (take n (drop k rs)) ≡ true
+  sane_row k n rs e = (sane_split n (drop k rs) (sane_split k rs e).1).0
+
+  pub sane_put : (k n : ℕ) (rs qs : List Pixel) → k + n ≤ length rs → length qs ≡ n → all_sane far rs ≡ true → all_sane far qs ≡ true → all_sane far (put_mid k n rs qs) ≡ true
+  sane_put k n rs qs h l e f =
+      ap (all_sane far) (sym (take-append-drop (k + n) (put_mid k n rs qs)))
+      ∙ sane_append (take (k + n) (put_mid k n rs qs)) (drop (k + n) (put_mid k n rs qs))
+      (ap (all_sane far) (take-put_mid k n rs qs (k + n) (omega arith) (omega arith)) ∙ sane_append (take k rs) qs (sane_split k rs e).0 f)
+      (ap (all_sane far) (drop-put_mid k n rs qs (k + n) (omega arith) (omega arith) l) ∙ (sane_split (k + n) rs e).1)
+
+-- the ray of pixel (i, j)
+module _ (v : View) (i j : ℕ) (hi : i < v.width) (hj : j < v.height) (o : Option Ray) (is : line_in o ≡ line_answer v i j) where
+  some_line : line_in o ≡ Some (start v i j, v.ray, v.far)
+  some_line = is ∙ cond-true (has v i j) _ _ (and_from (ltb i v.width) (ltb j v.height) (lt-ltb i v.width hi) (lt-ltb j v.height hj))
+
+  pub has_ray : IsSome o
+  has_ray = from o some_line
+    where
+      from : (o : Option Ray) → line_in o ≡ Some (start v i j, v.ray, v.far) → IsSome o
+      from (Some r) e = search rules
+      from None e = let z : ◌≡◌ {A = ℕ} 0 1 = cc in absurd (omega arith)
+
+  pub ray_line : (r : Ray) → o ≡ Some r → line r ≡ (start v i j, v.ray, v.far)
+  ray_line r e = let q : line_in (Some r) ≡ Some (start v i j, v.ray, v.far) = ap line_in (sym e) ∙ some_line in cc
+
+-- its far, and the clearance along it
+pub ray_far : (v : View) (i j : ℕ) (r : Ray) → line r ≡ (start v i j, v.ray, v.far) → r.far ≡ v.far
+ray_far v i j r e = ap (λ l. l.2) e
+
+pub ray_clear : (v : View) (b : Body) (i j : ℕ) (r : Ray) → line r ≡ (start v i j, v.ray, v.far) → clear_along b r ≡ clear_at v b i j
+ray_clear v b i j r e = ap {B = ℕ → ℕ} (λ (l : Point × Direction × ℕ) (t : ℕ). b.clear (along l.0 t l.1)) e
+
+-- what it says of a pixel, it says of pixel (i, j)
+pub ray_settled : (v : View) (b : Body) (i j budget : ℕ) (r : Ray) (p : Pixel) → line r ≡ (start v i j, v.ray, v.far) → settled (clear_along b r) r.far budget p ≡ settled (clear_at v b i j) v.far budget p
+ray_settled v b i j budget r p e = ap (λ (l : Point × Direction × ℕ). settled (λ t. b.clear (along l.0 t l.1)) l.2 budget p) e

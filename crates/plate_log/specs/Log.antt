@@ -1,10 +1,11 @@
 -- A plate's log: its calls from the opening on, and what the rules say of each line.
-use Rattle.std.specs.Prelude.{ℕ, ◌+◌, ◌-◌, ◌*◌, ◌/◌, ◌%◌, Bool, false, cond, List, [], ◌∷◌, ◌++◌, length, take, drop, replicate, Ok, Err, Result, ◌==◌, nat_le, nat_lt, slice_index_or, slice_set}
+use Rattle.std.specs.Prelude.{ℕ, ◌+◌, ◌-◌, ◌*◌, ◌/◌, ◌%◌, Bool, cond, List, [], ◌∷◌, ◌++◌, length, take, drop, replicate, Ok, Err, Result, ◌==◌, nat_le, slice_index_or, slice_set}
 use Rattle.solid.specs.Body.{Body}
 use Rattle.march.specs.declared.pixel.Pixel.{Pixel}
 use Rattle.march.specs.declared.pixel.Pixel.TheVariants.{Marching, Hit, Miss}
 use Rattle.march.specs.declared.view.View.{View}
-use Rattle.march.specs.View.{point}
+use Rattle.march.specs.declared.rays.Ray.{Ray}
+use Rattle.march.specs.View.{along, point, has as in_view}
 use Rattle.march.specs.March.{fresh, marches, settled}
 use Rattle.words.specs.Words.{four, image_word, number_word, hit_word, miss_word}
 use Rattle.plate_log.specs.declared.fault.PlateFault.{PlateFault}
@@ -39,11 +40,7 @@ abbrev pub place : View → (i j : ℕ) → ℕ
 place v i j = j * v.width + i
 
 abbrev pub has : View → (i j : ℕ) → Bool
-has v i j = cond (nat_lt i v.width) (nat_lt j v.height) false
-
--- the place of a pixel, or that there is no such pixel
-abbrev pub place_answer : View → (i j : ℕ) → Result ℕ PlateFault
-place_answer v i j = cond (has v i j) (Ok (place v i j)) (Err NoPixel)
+has v i j = in_view v i j
 
 -- the clearance along the ray of pixel (i, j), and along that of the pixel at place k
 abbrev pub clear_at : View → Body → (i j t : ℕ) → ℕ
@@ -51,6 +48,10 @@ clear_at v b i j t = b.clear (point v i j t)
 
 abbrev pub along_ray : View → Body → (k t : ℕ) → ℕ
 along_ray v b k t = clear_at v b (k % v.width) (k / v.width) t
+
+-- and along a given ray
+abbrev pub clear_along : Body → Ray → (t : ℕ) → ℕ
+clear_along b r t = b.clear (along r.start t r.toward)
 
 -- does the body answer in the whole working range?
 abbrev pub deep : Body → Bool
@@ -66,13 +67,12 @@ abbrev pub bytes : List Pixel → List ℕ
 bytes [] = []
 bytes (p ∷ ps) = four (word p) ++ bytes ps
 
--- an image: start, far, then a word for each pixel, row by row
-abbrev pub image : View → List Pixel → List ℕ
-image v ps = (four (image_word v.width v.height) ++ four (number_word v.far)) ++ bytes ps
-
--- the same of the numbers of a view
+-- an image: start, far, then a word for each pixel, row by row; by the numbers of a view, and of a view
 abbrev pub image_of : (width height far : ℕ) → List Pixel → List ℕ
 image_of w h far ps = (four (image_word w h) ++ four (number_word far)) ++ bytes ps
+
+abbrev pub image : View → List Pixel → List ℕ
+image v ps = image_of v.width v.height v.far ps
 
 -- one line: what a call on the pixels as they stand answers, and how it leaves them
 abbrev pub line : View → List Pixel → Call → Answer × List Pixel

@@ -4,7 +4,7 @@ ghost use Rattle.plate_log.specs.Told.{plate_told};
 ghost use Rattle.plate_log.specs.declared.fault.PlateFault.TheVariants.{View};
 
 use march::view::ViewFault;
-use refusal::Refusal;
+use refusal::{Refusal, Rule};
 
 /// Why a plate refuses a call.
 #[derive(Clone, Copy, PartialEq, Eq, Debug)]
@@ -23,27 +23,17 @@ pub enum PlateFault {
     NoRoom,
 }
 
-const SHALLOW: u32 = 16;
-
-const TOO_FEW_RECORDS: u32 = 18;
-
-const NO_PIXEL: u32 = 19;
-
-const STILL_MARCHING: u32 = 20;
-
-const NO_ROOM: u32 = 21;
-
 impl Refusal for PlateFault {
     ghost told = { plate_told };
 
     fn number(&self) -> u32 {
         match self {
             PlateFault::View(fault) => fault.number(),
-            PlateFault::TooFewRecords => TOO_FEW_RECORDS,
-            PlateFault::NoPixel => NO_PIXEL,
-            PlateFault::Shallow => SHALLOW,
-            PlateFault::StillMarching => STILL_MARCHING,
-            PlateFault::NoRoom => NO_ROOM,
+            PlateFault::TooFewRecords => Rule::Buffer.number(),
+            PlateFault::NoPixel => Rule::NoPixel.number(),
+            PlateFault::Shallow => Rule::Shallow.number(),
+            PlateFault::StillMarching => Rule::StillMarching.number(),
+            PlateFault::NoRoom => Rule::NoRoom.number(),
         }
     }
 

@@ -4,4 +4,4 @@ use Rattle.plate_log.proofs.Bytes.{head}
 use Rattle.plate.proofs.put_image.Given as goal
 
 abbrev pub invariant-loop-k : goal.invariant-loop-k
-invariant-loop-k l = l.out ≡ (head l.view ++ bytes (take l.k l.pixels)) ++ drop (8 + 4 * l.k) l.initial.out
+invariant-loop-k l = l.out ≡ (head l.fn.view ++ bytes (take l.k l.pixels)) ++ drop (4 * (2 + l.k)) l.initial.out

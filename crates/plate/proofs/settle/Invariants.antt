@@ -1,14 +1,13 @@
-use Rattle.std.proofs.Common.{◌≡◌, ◌-◌, ◌<◌, ◌≤◌, true, length, get_or}
-use Rattle.march.specs.March.{fresh, sane}
-use Rattle.plate_log.specs.Log.{clear_at}
-use Rattle.plate_log.proofs.Onward.{onto}
+use Rattle.std.proofs.Common.{◌≡◌, ◌-◌, ◌≤◌, true}
+use Rattle.march.specs.March.{sane, settled}
+use Rattle.plate_log.specs.Log.{clear_along}
 use Rattle.plate.proofs.settle.Given as goal
 
-abbrev pub invariant-loop-records : goal.invariant-loop-records
-invariant-loop-records g l =
-    let clear = clear_at l.view (g.S.Solid.body l.solid) l.i l.j in
-    (l.spent ≤ l.budget) × (l.k < length l.records) × (sane l.view.far (get_or l.records l.k fresh) ≡ true)
-    × (onto clear l.view.far l.k (l.budget - l.spent) l.records ≡ onto clear l.view.far l.k l.budget l.initial.records)
+abbrev pub invariant-loop-pixel : goal.invariant-loop-pixel
+invariant-loop-pixel g l =
+    let clear = clear_along (g.S.Solid.body l.solid.solid.now) l.ray in
+    (l.spent ≤ l.budget) × (sane l.ray.far l.pixel ≡ true)
+    × (settled clear l.ray.far (l.budget - l.spent) l.pixel ≡ settled clear l.ray.far l.budget l.initial.pixel)
 
-abbrev pub decreases-loop-records : goal.decreases-loop-records
-decreases-loop-records g l = l.budget - l.spent
+abbrev pub decreases-loop-pixel : goal.decreases-loop-pixel
+decreases-loop-pixel g l = l.budget - l.spent

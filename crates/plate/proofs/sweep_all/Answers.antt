@@ -1,73 +1,111 @@
-use Rattle.std.proofs.Common.{◌+◌, ◌*◌, get_or, set, sym, refl, ap, ◌∙◌, arith, length-set}
-use mathlib.Core.Path.{subst⁻¹}
-use Rattle.std.proofs.lemmas.Nat.{mul-add-lt, mul-le}
-use Rattle.lattice.specs.Space.{In}
+use Rattle.std.proofs.Common.{◌+◌, ◌-◌, ◌*◌, get_or, set, sym, refl, ap, ◌∙◌, arith, length-set}
+use Rattle.std.proofs.lemmas.Nat.{mul-le}
 use Rattle.march.specs.March.{fresh, sane}
-use Rattle.march.proofs.Space.{start_in}
-use Rattle.march.proofs.Ray.{sane_parts}
-use Rattle.plate_log.specs.Log.{along_ray}
+use Rattle.march.proofs.Ray.{sane_on}
+use Rattle.plate_log.specs.Log.{along_ray, clear_along}
 use Rattle.plate_log.proofs.Sanity.{sane_at, sane_set}
-use Rattle.plate_log.proofs.Onward.{not_marching, stepped_place, turn, next, over_spent, over_end}
+use Rattle.plate_log.proofs.Onward.{along_row, not_marching, step_on, stays_on, spent_on, counted_spent, next, no_more, no_budget, ray_line, ray_far, ray_settled, row_ends, row_long, row_done, sane_row, sane_put}
 use Rattle.plate.proofs.sweep_all.Goals as goal
 
-pub loop-pixels-init : goal.loop-pixels-init
-loop-pixels-init g c =
-    let v = c.args.view.now in
-    let lt = mul-add-lt c.sweep.j v.width c.loop-i.i v.height c.sweep-test.true c.loop-i-test.true in
-    (c.loop-i.invariant.0, c.loop-i.invariant.1, omega arith, refl)
+pub loop-i-init : goal.loop-i-init
+loop-i-init g c = (c.sweep.invariant.0, sane_row c.args.view.far _ _ c.sweep.pixels c.sweep.invariant.1, refl)
 
-pub step-requires : goal.step-requires
-step-requires g c =
-    let v = c.args.view.now in
-    let k = c.sweep.j * v.width + c.loop-i.i in
-    let sound = sane_at v.far c.loop-pixels.pixels k c.loop-pixels.invariant.1 c.loop-pixels.invariant.2 in
-    let h = sane_parts v.far c.in-Marching.t c.in-Marching.probes (sym (ap (sane v.far) c.in-Marching.is) ∙ sound) in
-    record {
-      near = subst⁻¹ (In 16510) c.start_of-start.ensures (start_in v c.loop-i.i c.sweep.j c.loop-i-test.true c.sweep-test.true);
-      within = (h.0, h.1);
-      reaches = c.requires.reaches;
-    }
-
-pub loop-pixels-preserved : goal.loop-pixels-preserved
-loop-pixels-preserved g c =
-    let v = c.args.view.now in
-    let b = g.S.Solid.body c.args.solid.now in
+pub loop-pixel-init : goal.loop-pixel-init
+loop-pixel-init g c =
+    let v = c.args.view in
     let i = c.loop-i.i in
     let j = c.sweep.j in
-    let k = j * v.width + i in
-    let ps = c.loop-pixels.pixels in
+    let k = j * v.width in
+    let x = get_or c.loop-i.pixel-items i fresh in
+    let wide = row_long v j (k + v.width - k) c.sweep.pixels (omega arith) c.sweep-test.true (omega arith) in
+    let r = c.unwrap-ray.result in
+    let line = ray_line v i j (omega arith) c.sweep-test.true c.ray_of.result c.ray_of.ensures r c.unwrap-ray.ensures in
+    (c.loop-i.invariant.0, ap (λ far. sane far x) (ray_far v i j r line) ∙ sane_at v.far c.loop-i.pixel-items i c.loop-i.invariant.1 (omega arith), refl)
+
+pub loop-pixel-preserved : goal.loop-pixel-preserved
+loop-pixel-preserved g c =
+    let r = c.unwrap-ray.result in
+    let clear = clear_along (g.S.Solid.body c.args.solid.now.solid.now) r in
     let t = c.in-Marching.t in
-    let n = c.in-Marching.probes in
-    let q = c.step.result in
-    let is = stepped_place v b i j t n c.start_of-start.result q c.loop-i-test.true c.start_of-start.ensures c.step.ensures.value in (
+    let n = c.in-Marching.probes in (
       omega arith,
-      sane_set v.far ps k q c.loop-pixels.invariant.1 c.step.ensures.sound,
-      omega (arith, length-set ps k q),
-      turn (along_ray v b) v.far k c.loop-pixels.spent c.args.budget t n ps (set ps k q) _
-          c.loop-pixels.invariant.2 c.in-Marching.is (omega arith) (ap (set ps k) is) c.loop-pixels.invariant.3,
+      ap (sane r.far) c.step.ensures ∙ sane_on r.far t n (clear t) (sym (ap (sane r.far) c.in-Marching.is) ∙ c.loop-pixel.invariant.1),
+      step_on clear r.far c.loop-pixel.spent c.args.budget c.loop-pixel.pixel _ c.loop-pixel.invariant.2 t n c.step.result c.in-Marching.is (omega arith) c.step.ensures,
     )
 
 pub loop-i-preserved : goal.loop-i-preserved
 loop-i-preserved g c =
-    let v = c.args.view.now in
-    let b = g.S.Solid.body c.args.solid.now in
-    let k = c.sweep.j * v.width + c.loop-i.i in
-    let done = not_marching (get_or c.loop-pixels.pixels k fresh) c.in_default.not-Marching in (
-      c.loop-pixels.invariant.0,
-      c.loop-pixels.invariant.1,
-      next (along_ray v b) v.far k _ _ c.loop-pixels.pixels _ c.loop-pixels.invariant.2 done (omega arith) (c.loop-pixels.invariant.3 ∙ c.loop-i.invariant.2),
+    let v = c.args.view in
+    let b = g.S.Solid.body c.args.solid.now.solid.now in
+    let i = c.loop-i.i in
+    let j = c.sweep.j in
+    let k = j * v.width in
+    let xs = c.loop-i.pixel-items in
+    let q = c.loop-pixel.pixel in
+    let spent = c.loop-pixel.spent in
+    let left = c.args.budget - c.loop-i.spent in
+    let wide = row_long v j (k + v.width - k) c.sweep.pixels (omega arith) c.sweep-test.true (omega arith) in
+    let r = c.unwrap-ray.result in
+    let line = ray_line v i j (omega arith) c.sweep-test.true c.ray_of.result c.ray_of.ensures r c.unwrap-ray.ensures in
+    let done = stays_on (clear_along b r) r.far spent c.args.budget q _ c.loop-pixel.invariant.2 (not_marching q c.in_default.not-Marching) ∙ ray_settled v b i j left r (get_or xs i fresh) line in (
+      c.loop-pixel.invariant.0,
+      sane_set v.far xs i q c.loop-i.invariant.1 (ap (λ far. sane far q) (sym (ray_far v i j r line)) ∙ c.loop-pixel.invariant.1),
+      next (along_row v b j) v.far i left (c.args.budget - spent) xs q _ (omega arith) done c.loop-i.invariant.2,
+    )
+
+pub sweep-preserved : goal.sweep-preserved
+sweep-preserved g c =
+    let v = c.args.view in
+    let b = g.S.Solid.body c.args.solid.now.solid.now in
+    let j = c.sweep.j in
+    let k = j * v.width in
+    let n = k + v.width - k in
+    let ps = c.sweep.pixels in
+    let qs = c.loop-i.pixel-items in
+    let spent = c.loop-i.spent in
+    let wide = row_long v j n ps (omega arith) c.sweep-test.true (omega arith) in
+    let ends = row_ends v j n ps (omega arith) c.sweep-test.true (omega arith) in
+    let done = no_more (along_row v b j) v.far c.loop-i.i (c.args.budget - spent) qs _ (omega arith) c.loop-i.invariant.2 in (
+      c.loop-i.invariant.0,
+      sane_put v.far k n ps qs ends (omega arith) c.sweep.invariant.1 c.loop-i.invariant.1,
+      row_done v j n ps (omega arith) c.sweep-test.true (omega arith) b (c.args.budget - c.sweep.spent) (c.args.budget - spent) qs _ done c.sweep.invariant.2,
     )
 
 pub returns-after-sweep : goal.returns-after-sweep
 returns-after-sweep g c =
-    let v = c.args.view.now in
-    let le = mul-le v.height v.width c.sweep.j v.width c.sweep-test.false (omega arith) in
-    let o = over_end (along_ray v (g.S.Solid.body c.args.solid.now)) v.far (c.sweep.j * v.width) c.sweep.spent c.args.budget c.sweep.pixels _ (omega arith) c.sweep.invariant.0 c.sweep.invariant.2 in
+    let v = c.args.view in
+    let b = g.S.Solid.body c.args.solid.now.solid.now in
+    let spent = c.sweep.spent in
+    let done = no_more (along_ray v b) v.far (c.sweep.j * v.width) (c.args.budget - spent) c.sweep.pixels _ (omega (arith, mul-le v.height v.width c.sweep.j v.width c.sweep-test.false (omega arith))) c.sweep.invariant.2 in
+    let o = counted_spent c.sweep.pixels spent c.args.budget _ c.sweep.invariant.0 done in
     record { value = o.0; spent = o.1; sound = c.sweep.invariant.1 }
 
 pub returns-then-spent-budget : goal.returns-then-spent-budget
 returns-then-spent-budget g c =
-    let v = c.args.view.now in
-    let o = over_spent (along_ray v (g.S.Solid.body c.args.solid.now)) v.far (c.sweep.j * v.width + c.loop-i.i) c.loop-pixels.spent c.args.budget c.loop-pixels.pixels _
-    c.if-spent-budget.true (c.loop-pixels.invariant.3 ∙ c.loop-i.invariant.2 ∙ c.sweep.invariant.2) in
-    record { value = o.0; spent = o.1; sound = c.loop-pixels.invariant.1 }
+    let v = c.args.view in
+    let b = g.S.Solid.body c.args.solid.now.solid.now in
+    let i = c.loop-i.i in
+    let j = c.sweep.j in
+    let k = j * v.width in
+    let n = k + v.width - k in
+    let ps = c.sweep.pixels in
+    let xs = c.loop-i.pixel-items in
+    let q = c.loop-pixel.pixel in
+    let spent = c.loop-pixel.spent in
+    let left = c.args.budget - spent in
+    let wide = row_long v j n ps (omega arith) c.sweep-test.true (omega arith) in
+    let ends = row_ends v j n ps (omega arith) c.sweep-test.true (omega arith) in
+    let r = c.unwrap-ray.result in
+    let line = ray_line v i j (omega arith) c.sweep-test.true c.ray_of.result c.ray_of.ensures r c.unwrap-ray.ensures in
+    let pixel = spent_on (clear_along b r) r.far spent c.args.budget q _ c.loop-pixel.invariant.2 c.if-spent-budget.true ∙ ray_settled v b i j (c.args.budget - c.loop-i.spent) r (get_or xs i fresh) line in
+    let row = no_budget (along_row v b j) v.far (i + 1) left (set xs i q) _ (omega arith)
+    (next (along_row v b j) v.far i (c.args.budget - c.loop-i.spent) left xs q _ (omega arith) pixel c.loop-i.invariant.2) in
+    let done = no_budget (along_ray v b) v.far ((j + 1) * v.width) left _ _ (omega arith)
+    (row_done v j n ps (omega arith) c.sweep-test.true (omega arith) b (c.args.budget - c.sweep.spent) left (set xs i q) _ row c.sweep.invariant.2) in
+    let o = counted_spent _ spent c.args.budget _ c.loop-pixel.invariant.0 done in
+    record {
+      value = o.0;
+      spent = o.1;
+      sound = sane_put v.far k n ps (set xs i q) ends (omega (arith, length-set xs i q)) c.sweep.invariant.1
+          (sane_set v.far xs i q c.loop-i.invariant.1 (ap (λ far. sane far q) (sym (ray_far v i j r line)) ∙ c.loop-pixel.invariant.1));
+    }

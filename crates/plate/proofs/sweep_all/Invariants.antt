@@ -1,26 +1,30 @@
-use Rattle.std.proofs.Common.{◌≡◌, ◌+◌, ◌-◌, ◌*◌, ◌<◌, ◌≤◌, true, length}
+use Rattle.std.proofs.Common.{◌≡◌, ◌-◌, ◌*◌, ◌≤◌, true}
+use Rattle.march.specs.March.{sane, settled}
 use Rattle.plate_log.specs.Sweep.{all_sane}
-use Rattle.plate_log.specs.Log.{along_ray}
-use Rattle.plate_log.proofs.Onward.{onward}
+use Rattle.plate_log.specs.Log.{along_ray, clear_along}
+use Rattle.plate_log.proofs.Onward.{onward, along_row}
 use Rattle.plate.proofs.sweep_all.Given as goal
 
-abbrev pub invariant-loop-pixels : goal.invariant-loop-pixels
-invariant-loop-pixels g l =
-    let clear = along_ray l.view (g.S.Solid.body l.solid) in
-    (l.spent ≤ l.budget) × (all_sane l.view.far l.pixels ≡ true) × (l.k < length l.pixels)
-    × (onward clear l.view.far l.k (l.budget - l.spent) l.pixels ≡ onward clear l.view.far l.k (l.budget - l.initial.spent) l.initial.pixels)
+-- the pixel
+abbrev pub invariant-loop-pixel : goal.invariant-loop-pixel
+invariant-loop-pixel g l =
+    let clear = clear_along (g.S.Solid.body l.solid.solid.now) l.ray in
+    (l.spent ≤ l.budget) × (sane l.ray.far l.pixel ≡ true)
+    × (settled clear l.ray.far (l.budget - l.spent) l.pixel ≡ settled clear l.ray.far (l.budget - l.initial.spent) l.initial.pixel)
 
-abbrev pub decreases-loop-pixels : goal.decreases-loop-pixels
-decreases-loop-pixels g l = l.budget - l.spent
+abbrev pub decreases-loop-pixel : goal.decreases-loop-pixel
+decreases-loop-pixel g l = l.budget - l.spent
 
+-- the row, from pixel i on
 abbrev pub invariant-loop-i : goal.invariant-loop-i
 invariant-loop-i g l =
-    let clear = along_ray l.view (g.S.Solid.body l.solid) in
-    (l.spent ≤ l.budget) × (all_sane l.view.far l.pixels ≡ true)
-    × (onward clear l.view.far (l.j * l.view.width + l.i) (l.budget - l.spent) l.pixels ≡ onward clear l.view.far (l.j * l.view.width) (l.budget - l.initial.spent) l.initial.pixels)
+    let clear = along_row l.view (g.S.Solid.body l.solid.solid.now) l.j in
+    (l.spent ≤ l.budget) × (all_sane l.view.far l.pixel-items ≡ true)
+    × (onward clear l.view.far l.i (l.budget - l.spent) l.pixel-items ≡ onward clear l.view.far 0 (l.budget - l.initial.spent) l.initial.pixel-items)
 
+-- the pixels, from row j on
 abbrev pub invariant-sweep : goal.invariant-sweep
 invariant-sweep g l =
-    let clear = along_ray l.view (g.S.Solid.body l.solid) in
+    let clear = along_ray l.view (g.S.Solid.body l.solid.solid.now) in
     (l.spent ≤ l.budget) × (all_sane l.view.far l.pixels ≡ true)
     × (onward clear l.view.far (l.j * l.view.width) (l.budget - l.spent) l.pixels ≡ onward clear l.view.far 0 l.budget l.initial.pixels)
