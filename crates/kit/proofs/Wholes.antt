@@ -111,12 +111,13 @@ refused_so bs rs qs out text e h = by (parsed bs) refl h
         let same : d ≡ e = cc in
         record { is = is ∙ ap Err same; records = ap (λ (l : Left InputFault). l.1) h; bytes = ap (λ (l : Left InputFault). l.2) h }
 
-pub refusal_written : (bs : List ℕ) (rs qs : List Pixel) (out text new : List ℕ) (e : InputFault) (n word : ℕ)
-    → Refused bs e rs qs out text → word ≡ refusal_of e → new ≡ four word ++ drop 4 text → n ≡ 4 → ◌≡◌ {A = ℕ × List Pixel × List ℕ} (n, qs, new) (drawn (parsed bs) rs out)
+pub refusal_written : (bs : List ℕ) (rs qs new_qs : List Pixel) (out text new : List ℕ) (e : InputFault) (n word : ℕ)
+    → Refused bs e rs qs out text → new_qs ≡ qs → word ≡ refusal_of e → new ≡ four word ++ drop 4 text → n ≡ 4 → ◌≡◌ {A = ℕ × List Pixel × List ℕ} (n, new_qs, new) (drawn (parsed bs) rs out)
 unfolding drawn
-refusal_written bs rs qs out text new e n word r w f l =
+refusal_written bs rs qs new_qs out text new e n word r k w f l =
     let g : new ≡ four (refusal_of e) ++ drop 4 out = f ∙ (λ t. four (w t) ++ drop 4 (r.bytes t)) in
-    (λ t. (l t, r.records t, g t)) ∙ sym (ap (λ (p : Result Model InputFault). drawn p rs out) r.is)
+    let h : new_qs ≡ rs = k ∙ r.records in
+    (λ t. (l t, h t, g t)) ∙ sym (ap (λ (p : Result Model InputFault). drawn p rs out) r.is)
 
 pub nothing_shown : (bs : List ℕ) (rs qs : List Pixel) (out text new : List ℕ) (e : InputFault) → Refused bs e rs qs out text → (m : Model) → parsed bs ≡ Ok m → Contact m new
 nothing_shown bs rs qs out text new e r m p = let z : ◌≡◌ {A = Result Model InputFault} (Err e) (Ok m) = sym r.is ∙ p in let z : ◌≡◌ {A = ℕ} 0 1 = cc in absurd (omega arith)

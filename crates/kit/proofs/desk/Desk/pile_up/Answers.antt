@@ -1,4 +1,4 @@
-use Rattle.std.proofs.Common.{◌≡◌, ℕ, ◌<◌, ◌≤◌, leb, List, is_ok, Ok, Err, sym, ap, ◌∙◌, arith}
+use Rattle.std.proofs.Common.{◌≡◌, ℕ, ◌<◌, ◌≤◌, leb, List, is_ok, Ok, Err, refl, sym, ap, ◌∙◌, arith}
 use mathlib.Core.Path.{subst⁻¹}
 use Rattle.std.proofs.lemmas.Bool.{cond-true, cond-false, le-leb, lt-leb}
 use Rattle.solid.specs.Body.{Body}
@@ -10,7 +10,7 @@ use Rattle.kit.specs.declared.fault.InputFault.TheVariants.{Shallow}
 use Rattle.kit.specs.Render.{Left, plain_of, shot}
 use Rattle.kit.specs.Steps.{over}
 use Rattle.kit.proofs.Stacks.{ok_mapped, box_stands, shift_stands, corners, under, unwrapped, stacked}
-use Rattle.kit.proofs.pile_up.Goals as goal
+use Rattle.kit.proofs.desk.Desk.pile_up.Goals as goal
 
 -- what a refused pile leaves, and what the picture of another does
 too_shallow : (b : Body) (n : ViewNumbers) (rs : List Pixel) (out : List ℕ) → b.reach < 32767 → ◌≡◌ {A = Left InputFault} (Err Shallow, rs, out) (over b n rs out)
@@ -43,7 +43,7 @@ returns-then-reach-lt-WORKING g c =
     (unwrapped c.new-2.result _ _ c.unwrap-moved.ensures (c.new-2.ensures ∙ shift_stands (g.T.Solid.body c.args.sheet).reach j.shift _ j.near c.requires.far))
     (corners c.new.result c.unwrap-clip.result j.lo j.hi c.unwrap-clip.ensures (c.new.ensures ∙ box_stands j.lo j.hi j.low j.high j.upright)) in
     let reach = ap (λ (b : Body). b.reach) same in
-    record { value = too_shallow _ j.view c.args.records.now c.args.out.now (omega (arith, c.reach.ensures, c.if-reach-lt-WORKING.true, reach)); shows = tt }
+    record { value = too_shallow _ j.view c.args.self.now.records.now c.args.self.now.out.now (omega (arith, c.reach.ensures, c.if-reach-lt-WORKING.true, reach)); shows = tt; lender = (refl, refl) }
 
 pub returns : goal.returns
 returns g c =
@@ -55,8 +55,9 @@ returns g c =
     (corners c.new.result c.unwrap-clip.result j.lo j.hi c.unwrap-clip.ensures (c.new.ensures ∙ box_stands j.lo j.hi j.low j.high j.upright)) in
     let reach = ap (λ (b : Body). b.reach) same in
     record {
-      value = deep_enough _ j.view c.args.records.now c.picture.new.records c.args.out.now c.picture.new.out c.picture.result
+      value = deep_enough _ j.view c.args.self.now.records.now c.picture.new.self.records.now c.args.self.now.out.now c.picture.new.self.out.now c.picture.result
           (omega (arith, c.reach.ensures, c.if-reach-lt-WORKING.false, reach))
-          (c.picture.ensures.value ∙ ap (λ (b : Body). shot b (plain_of j.view) c.args.records.now c.args.out.now) same);
+          (c.picture.ensures.value ∙ ap (λ (b : Body). shot b (plain_of j.view) c.args.self.now.records.now c.args.self.now.out.now) same);
       shows = λ M piled. c.picture.ensures.shows M (subst⁻¹ (Piled M) same piled);
+      lender = c.picture.ensures.lender;
     }
