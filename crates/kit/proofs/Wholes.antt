@@ -7,7 +7,7 @@ use Rattle.geometry.specs.Leaves.{ordered}
 use Rattle.march.specs.declared.pixel.Pixel.{Pixel}
 use Rattle.march.specs.Checks.{view_answer}
 use Rattle.words.specs.Words.{four}
-use Rattle.words.specs.Reading.{and_then, unless, bare_at}
+use Rattle.words.specs.Reading.{unless, bare_at}
 use Rattle.words.proofs.Chains.{first_ok, test_held, same_ok}
 use Rattle.readers.specs.declared.surface.SurfaceSize.{SurfaceSize}
 use Rattle.readers.specs.declared.job.JobFault.TheVariants.{Corners}
@@ -40,26 +40,21 @@ heights_same j b s hs e =
     let n = s.width * s.depth in
     ap (λ (ks : List ℤ). record { job = j; scene = b; width = s.width; depth = s.depth; heights = ks }) (take_all n (take n hs) (omega arith))
 
+-- of a model whose guard its scene may have, only the reach is left to be looked at
+pub over_whole : (m : Model) (rs : List Pixel) (out : List ℕ) → (eqb m.job.guard 0 || m.scene.exact) ≡ true → over (pile_of m) m.job.view rs out ≡ tried (whole m) rs out
+over_whole m rs out x =
+    sym (ap (λ (r : Result Model InputFault). tried r rs out) (cond-true (eqb m.job.guard 0 || m.scene.exact) _ _ x) ∙ by (leb 32767 (pile_of m).reach))
+  where
+    by : (d : Bool) → tried (unless d Shallow (Ok m)) rs out ≡ cond d (taken (pile_of m) m.job.view rs out) (Err Shallow, rs, out)
+    by true = refl
+    by false = refl
+
 module _ (bs : List ℕ) (j : JobNumbers) (b : Body) (s : SurfaceSize) (hs : List ℤ) (e : parts_of bs ≡ Ok (model_of j b s hs)) (long : length (take (s.width * s.depth) hs) ≡ s.width * s.depth) where
   abbrev m : Model
   m = model_of j b s hs
 
   abbrev handed : Model
   handed = model_of j b s (take (s.width * s.depth) hs)
-
-  -- only the reach is left to be looked at
-  reached : (rs : List Pixel) (out : List ℕ) → (eqb j.guard 0 || b.exact) ≡ true → over (pile_of m) j.view rs out ≡ tried (parsed bs) rs out
-  reached rs out x =
-      sym (ap (λ (r : Result Model InputFault). tried (and_then r whole) rs out) e
-      ∙ ap (λ (r : Result Model InputFault). tried r rs out) (cond-true (eqb j.guard 0 || b.exact) _ _ x)
-      ∙ by (leb 32767 (pile_of m).reach))
-    where
-      by : (d : Bool) → tried (unless d Shallow (Ok m)) rs out ≡ cond d (taken (pile_of m) j.view rs out) (Err Shallow, rs, out)
-      by true = refl
-      by false = refl
-
-  pub tried_so : (rs : List Pixel) (out : List ℕ) → (eqb j.guard 0 || b.exact) ≡ true → over (pile_of handed) j.view rs out ≡ tried (parsed bs) rs out
-  tried_so rs out x = ap (λ (m : Model). over (pile_of m) j.view rs out) (heights_same j b s hs long) ∙ reached rs out x
 
   pub shown_so : (r : Result ℕ InputFault) (text : List ℕ) → IfOk r (λ _. Contact handed text) → IfOk r (λ _. (m : Model) → parsed bs ≡ Ok m → Contact m text)
   shown_so (Ok k) text c = λ m' p. subst (λ (m : Model). Contact m text) (heights_same j b s hs long ∙ same_ok m m' (sym e ∙ parsed_parts bs m' p)) c

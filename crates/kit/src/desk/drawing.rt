@@ -1,5 +1,5 @@
 //! The drawing on what is lent: from a model's bytes to the image of its pile.
-ghost use Rattle.std.specs.Prelude.{◌≡◌, ℕ, ◌*◌, ◌≤◌, Bool, true, ◌++◌, length, drop, is_ok, Ok, OnOk};
+ghost use Rattle.std.specs.Prelude.{◌≡◌, ℕ, ◌*◌, ◌≤◌, Bool, true, ◌||◌, ◌==◌, ◌++◌, length, drop, is_ok, Ok, OnOk};
 ghost use Rattle.lattice.specs.declared.Point.{Point as Place};
 ghost use Rattle.march.specs.Checks.{view_answer};
 ghost use Rattle.geometry.specs.Layers.{thicken};
@@ -36,6 +36,13 @@ const LONGEST_STRIDE: i32 = 64;
 
 /// A solid is taken where it answers at every point whose coordinates are at most this, in size.
 const WORKING: u32 = 32_767;
+
+/// Only an exact scene has a guard above 0.
+fn may_be_guarded(scene: &Scene, guard: u32) -> bool
+    ensures { result ≡ (guard == 0 || (scene_body scene.now).exact) }
+{
+    guard == 0 || scene.is_exact()
+}
 
 /// An exact scene, thickened.
 fn thickened(scene: &Scene, guard: u32) -> Thicken<ExactScene>
@@ -101,7 +108,7 @@ impl Desk<'_> {
         ensures shows { OnOk result (Contact (model_of (job_numbers job.now) (scene_body scene.now) size heights.now) self.new.out.now) }
         ensures lender { SameLoans self.old self.new }
     {
-        if job.guard > 0 && !scene.is_exact() {
+        if !may_be_guarded(scene, job.guard) {
             return Err(InputFault::Inexact);
         }
         let sheet = Sheet::check(size.width as i32, size.depth as i32, heights).unwrap();

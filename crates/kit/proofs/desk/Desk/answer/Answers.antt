@@ -1,7 +1,6 @@
-use Rattle.std.proofs.Common.{arith}
 use Rattle.kit.specs.Models.{parsed}
 use Rattle.kit.specs.Laws.{Files}
-use Rattle.kit.proofs.Wholes.{short_inputs, answered, most_bytes, refused_so, refusal_written, nothing_shown}
+use Rattle.kit.proofs.Wholes.{short_inputs, answered, most_bytes, refused_so, refusal_written}
 use Rattle.kit.proofs.Order.{in_order}
 use Rattle.kit.proofs.ReadBack.{inputs_back}
 use Rattle.kit.proofs.desk.Desk.answer.Goals as goal

@@ -38,7 +38,7 @@ returns-clause-value g c =
     let new = o.2 ∙ ap (λ (rs : List Pixel). replicate (area q.view) fresh ++ drop (area q.view) rs) lent in
     let line = subst (λ (v : View). ◌≡◌ {A = Answer × List ℕ} (bytes_of c.write.result c.write.new.out, c.write.new.out) (written v s.records.now c.args.self.now.out.now)) c.sweep.ensures.view c.write.ensures.line in
     shot_is q.view (g.S.Solid.body c.args.pile.now) c.requires.deep c.args.view c.args.self.now.records.now q.records.now s.records.now o.1 new (counts_of c.sweep.result) c.sweep.ensures.line
-          c.args.self.now.out.now c.write.new.out c.write.result c.args.self.now.room line c.unwrap-3.result c.unwrap-3.ensures _ (search rules)
+    c.args.self.now.out.now c.write.new.out c.write.result c.args.self.now.room line c.unwrap-3.result c.unwrap-3.ensures _ (search rules)
 
 pub returns-clause-shows : goal.returns-clause-shows
 returns-clause-shows g c =
@@ -51,4 +51,4 @@ returns-clause-shows g c =
     let new = o.2 ∙ ap (λ (rs : List Pixel). replicate (area q.view) fresh ++ drop (area q.view) rs) lent in
     let line = subst (λ (v : View). ◌≡◌ {A = Answer × List ℕ} (bytes_of c.write.result c.write.new.out, c.write.new.out) (written v s.records.now c.args.self.now.out.now)) c.sweep.ensures.view c.write.ensures.line in
     shows_it q.view (g.S.Solid.body c.args.pile.now) c.requires.deep c.args.view c.args.self.now.records.now q.records.now s.records.now o.1 new (counts_of c.sweep.result) c.sweep.ensures.line
-          c.args.self.now.out.now c.write.new.out c.write.result c.args.self.now.room line c.unwrap-3.result c.unwrap-3.ensures
+    c.args.self.now.out.now c.write.new.out c.write.result c.args.self.now.room line c.unwrap-3.result c.unwrap-3.ensures
