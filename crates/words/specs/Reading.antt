@@ -32,6 +32,10 @@ kind_at bs k least most =
     unless (nat_le least (w / 268435456) && nat_le (w / 268435456) most) (Kind k)
     (Ok (w / 268435456, w % 268435456)))
 
+-- such a word of one kind: its other 28 bits
+abbrev pub rest_at : List ℕ → (place kind : ℕ) → Result ℕ WordFault
+rest_at bs k kind = and_then (kind_at bs k kind kind) (λ w. Ok w.1)
+
 -- such a word of which all other bits are unnamed
 unfoldable pub bare_at : List ℕ → (place least most : ℕ) → Result ℕ WordFault
 bare_at bs k least most = and_then (kind_at bs k least most) (λ w. unless (w.1 == 0) (Unnamed k) (Ok w.0))

@@ -2,7 +2,7 @@
 ghost use Rattle.std.specs.Prelude.{◌≡◌};
 ghost use Rattle.words.specs.Told.{word_told, place_told};
 
-use refusal::Refusal;
+use refusal::{Refusal, Rule};
 
 /// Why a word is refused. Its place is counted in words from 0, at the first word of its part.
 #[derive(Clone, Copy, PartialEq, Eq, Debug)]
@@ -19,24 +19,11 @@ pub enum WordFault {
     Row { place: usize },
 }
 
-const SHORT: u32 = 1;
-
-const KIND: u32 = 2;
-
-const UNNAMED: u32 = 3;
-
-const RANGE: u32 = 4;
-
-const ROW: u32 = 5;
-
-/// The highest place that can be told.
-const FURTHEST: usize = 0xffff_ffff;
-
 /// A place as it is told: one past the highest is told as the highest.
 pub fn tell(place: usize) -> u32
     ensures { result ≡ place_told place }
 {
-    place.min(FURTHEST) as u32
+    u32::try_from(place).unwrap_or(u32::MAX)
 }
 
 impl Refusal for WordFault {
@@ -44,21 +31,21 @@ impl Refusal for WordFault {
 
     fn number(&self) -> u32 {
         match self {
-            WordFault::Short { .. } => SHORT,
-            WordFault::Kind { .. } => KIND,
-            WordFault::Unnamed { .. } => UNNAMED,
-            WordFault::Range { .. } => RANGE,
-            WordFault::Row { .. } => ROW,
+            WordFault::Short { .. } => Rule::Short.number(),
+            WordFault::Kind { .. } => Rule::Kind.number(),
+            WordFault::Unnamed { .. } => Rule::Unnamed.number(),
+            WordFault::Range { .. } => Rule::Range.number(),
+            WordFault::Row { .. } => Rule::Row.number(),
         }
     }
 
     fn place(&self) -> u32 {
         match self {
-            WordFault::Short { place } => tell(*place),
-            WordFault::Kind { place } => tell(*place),
-            WordFault::Unnamed { place } => tell(*place),
-            WordFault::Range { place } => tell(*place),
-            WordFault::Row { place } => tell(*place),
+            WordFault::Short { place }
+            | WordFault::Kind { place }
+            | WordFault::Unnamed { place }
+            | WordFault::Range { place }
+            | WordFault::Row { place } => tell(*place),
         }
     }
 }

@@ -1,15 +1,8 @@
-use Rattle.std.proofs.Common.{rules}
+use Rattle.std.proofs.Common.{arith}
+use Rattle.std.proofs.lemmas.Grind.{common_steps}
 use Rattle.words.specs.Reading.{number_in}
 use Rattle.words.proofs.reader.Reader.number_in.Goals as goal
 
-pub returns-in_err-number : goal.returns-in_err-number
+pub returns-then-not-contains-clause-value : goal.returns-then-not-contains-clause-value
 unfolding number_in
-returns-in_err-number c = record { value = search rules; moved = search rules }
-
-pub returns-then-n-lo : goal.returns-then-n-lo
-unfolding number_in
-returns-then-n-lo c = record { value = search rules; moved = search rules }
-
-pub returns : goal.returns
-unfolding number_in
-returns c = record { value = search rules; moved = search rules }
+returns-then-not-contains-clause-value c = grind (arith, common_steps)

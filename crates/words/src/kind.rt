@@ -1,0 +1,94 @@
+//! The kinds of words.
+ghost use Rattle.std.specs.Prelude.{◌≡◌};
+ghost use Rattle.words.specs.Kinds.{kind_number, kind_word, Names};
+
+/// What a word is. Its number stands in the word's bits 31..28.
+#[derive(Clone, Copy, PartialEq, Eq, Debug)]
+pub enum Kind {
+    /// The start of a scene: how many words come after it.
+    Scene = 1,
+    /// A number of 16 bits, in two's complement.
+    Number = 2,
+    /// A node, a ball: its centre and its radius follow.
+    Ball = 3,
+    /// A node, a box: its lower and its upper corner follow.
+    Block = 4,
+    /// A node: what unites the last two that stand.
+    Unite = 5,
+    /// A node: what is common to the last two that stand.
+    Meet = 6,
+    /// A node: the last that stands, shifted. The offset follows.
+    Shift = 7,
+    /// A node: the last that stands, thickened. The thickness follows.
+    Thicken = 8,
+    /// The start of a surface: its width and its depth.
+    Surface = 9,
+    /// The start of an image: its width and its height.
+    Image = 10,
+    /// A pixel whose ray touches: the depth, and how many probes it took.
+    Hit = 11,
+    /// A pixel whose ray touches nothing: how many probes it took.
+    Miss = 12,
+    /// The start of a job.
+    Job = 13,
+    /// A refused input: the part, the number of the rule and the place.
+    Refusal = 14,
+}
+
+/// A number that names no kind of word.
+#[derive(Clone, Copy, PartialEq, Eq, Debug)]
+pub struct UnknownKind(pub u32);
+
+/// How many words there are of a kind: bits 31..28 of a word are its kind's number, and the other 28
+/// are its rest.
+pub(crate) const WORDS: u32 = 0x1000_0000;
+
+impl Kind {
+    /// The number of the kind.
+    pub fn number(self) -> u32
+        ensures { result ≡ kind_number self }
+    {
+        self as u32
+    }
+
+    /// The word of this kind whose other bits are the low 28 of `rest`.
+    pub fn word(self, rest: u32) -> u32
+        ensures { result ≡ kind_word self rest }
+    {
+        self.number() * WORDS + rest % WORDS
+    }
+}
+
+impl From<Kind> for u32 {
+    ghost from_gives = { λ kind n. n ≡ kind_number kind };
+
+    fn from(kind: Kind) -> u32 {
+        kind.number()
+    }
+}
+
+impl TryFrom<u32> for Kind {
+    type Error = UnknownKind;
+
+    ghost try_from_gives = { Names };
+
+    fn try_from(n: u32) -> Result<Kind, UnknownKind> {
+        match n {
+            1 => Ok(Kind::Scene),
+            2 => Ok(Kind::Number),
+            3 => Ok(Kind::Ball),
+            4 => Ok(Kind::Block),
+            5 => Ok(Kind::Unite),
+            6 => Ok(Kind::Meet),
+            7 => Ok(Kind::Shift),
+            8 => Ok(Kind::Thicken),
+            9 => Ok(Kind::Surface),
+            10 => Ok(Kind::Image),
+            11 => Ok(Kind::Hit),
+            12 => Ok(Kind::Miss),
+            13 => Ok(Kind::Job),
+            14 => Ok(Kind::Refusal),
+            _ => Err(UnknownKind(n)),
+        }
+    }
+}
