@@ -69,7 +69,7 @@ contact b law deep m s e =
     let r = plain_ray m in
     let c = clear_of b r in
     let fuel = r.far + 1 - r.t in
-    let far_in : (t : ℕ) → t ≤ m.far → In 32767 (along m.start t m.toward) = λ t h. ray_in m.start m.toward t m.far (m.left, m.low, m.near) m.close h in
+    let far_in : (t : ℕ) → t ≤ m.ray.far → In 32767 (along m.ray.start t m.ray.toward) = λ t h. ray_in m.ray.start m.ray.toward t m.ray.far (m.ray.left, m.ray.low, m.ray.near) m.ray.close h in
     let k = takes_some c r.far fuel r.t m.onto (omega (arith, m.onto)) in
     let rest = r.far + 1 - k.0 in
     let whole : k.0 + rest ≡ r.far + 1 = omega arith in
@@ -77,7 +77,7 @@ contact b law deep m s e =
     subst (λ (n : ℕ). Settles c r.far n rest (r.probes + k.0) (marching r.t r.probes)) whole (takes_settles c r.far rest r.probes k.2) in
     let count : s.probes ≡ r.probes + k.0 = probes_of s ∙ ap probes e ∙ ends.1 in
     record {
-      right = λ none. subst⁻¹ (Right (member_of b r) r.far) e (right_settled (member_of b r) r.far c (body_clears m.start m.toward m.far far_in b.member b law deep (λ q. refl)) (r.far + 1) (marching r.t r.probes) (m.onto, none));
+      right = λ none. subst⁻¹ (Right (member_of b r) r.far) e (right_settled (member_of b r) r.far c (body_clears m.ray.start m.ray.toward m.ray.far far_in b.member b law deep (λ q. refl)) (r.far + 1) (marching r.t r.probes) (m.onto, none));
       takes = (k.0, k.2, count);
       most = omega (arith, m.counted, m.onto);
     }

@@ -1,10 +1,11 @@
 -- What the calls on a ray answer.
-use Rattle.std.specs.Prelude.{◌≡◌, ℕ, ◌+◌, ◌<◌, ◌≤◌, Bool, false, cond, ◌&&◌, pos, ◌+ℤ◌, ◌*ℤ◌, Some, None, Ok, Err, Option, Result, nat_lt}
+use Rattle.std.specs.Prelude.{◌≡◌, ℕ, ◌+◌, ◌<◌, ◌≤◌, Bool, false, cond, ◌&&◌, pos, ◌+ℤ◌, ◌*ℤ◌, Some, None, Ok, Err, Option, Result, nat_le, nat_lt}
 use Rattle.lattice.specs.declared.Point.{Point}
 use Rattle.solid.specs.Body.{Body}
 use Rattle.march.specs.declared.view.ViewNumbers.{ViewNumbers}
 use Rattle.march.specs.declared.pixel.Pixel.{Pixel}
 use Rattle.march.specs.declared.pixel.Pixel.TheVariants.{Marching as marching, Hit as hit, Miss as miss}
+use Rattle.march.specs.declared.rays.Ray.{Ray}
 use Rattle.march.specs.declared.rays.Marching.{Marching}
 use Rattle.march.specs.declared.rays.Outcome.{Outcome}
 use Rattle.march.specs.declared.rays.Outcome.TheVariants.{Hit, Miss}
@@ -27,7 +28,7 @@ pub record PlainRay : Type 0 where
   pub probes : ℕ
 
 abbrev pub plain_ray : Marching → PlainRay
-plain_ray m = record { start = m.start; toward = way m.toward; far = m.far; t = m.t; probes = m.probes }
+plain_ray m = record { start = m.ray.start; toward = way m.ray.toward; far = m.ray.far; t = m.t; probes = m.probes }
 
 -- n steps from p, a direction being given by its parts
 abbrev pub along_way : Point → ℕ → Way → Point
@@ -62,6 +63,19 @@ state s = elim s.outcome [ Hit d ↦ hit d s.probes | Miss ↦ miss s.probes ]
 abbrev pub depth_of : Outcome → Option ℕ
 depth_of (Hit d) = Some d
 depth_of Miss = None
+
+-- what a step leaves, as a pixel's state
+abbrev pub pixel_of : Stepped → Pixel
+pixel_of (On m) = marching m.t m.probes
+pixel_of (Done s) = state s
+
+-- a ray taken up again at t, with so many probes
+abbrev pub resumed_in : Option Marching → Option (Ray × ℕ × ℕ)
+resumed_in (Some m) = Some (m.ray, m.t, m.probes)
+resumed_in None = None
+
+abbrev pub resumed : Ray → (t probes : ℕ) → Option (Ray × ℕ × ℕ)
+resumed r t n = cond (nat_le t r.far && nat_le n t) (Some (r, t, n)) None
 
 -- What a step leaves: the ray as it marches on, or the state in which it has settled.
 pub data PlainStepped : Type 0 where

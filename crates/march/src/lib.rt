@@ -1,14 +1,14 @@
 //! Rays that march to first contact, knowing only what a solid means.
 #![tactic(auto)]
 
-ghost use Rattle.std.specs.Prelude.{◌≡◌, ◌<◌, ◌≤◌, pos, ◌+ℤ◌, ◌*ℤ◌, unsigned_abs};
+ghost use Rattle.std.specs.Prelude.{◌≡◌, ◌≤◌, pos, ◌+ℤ◌, ◌*ℤ◌, unsigned_abs};
 ghost use Rattle.lattice.specs.Space.{In};
-ghost use Rattle.march.specs.View.{along, start};
+ghost use Rattle.march.specs.View.{along};
 
 use lattice::Point;
 use lattice::direction::Direction;
-use view::View;
 
+pub mod deep;
 pub mod pixel;
 pub mod rays;
 pub mod view;
@@ -31,12 +31,4 @@ fn moved(p: Point, n: u32, d: Direction) -> Point
         y: ahead(p.y, n, d.y),
         z: ahead(p.z, n, d.z),
     }
-}
-
-/// Where the ray of pixel (i, j) starts.
-fn start_of(view: View, i: u32, j: u32) -> Point
-    requires { (i < view.width) × (j < view.height) }
-    ensures { result ≡ start view i j }
-{
-    moved(moved(view.origin, i, view.across), j, view.down)
 }

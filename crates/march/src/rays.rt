@@ -6,24 +6,31 @@ ghost use Rattle.march.specs.declared.rays.RayFault.TheVariants.{View};
 use crate::view::ViewFault;
 use lattice::Point;
 use lattice::direction::Direction;
-use refusal::Refusal;
+use refusal::{Refusal, Rule};
 
 pub mod steps;
 
-/// A ray that marches. It has come to `t` along the points start + t toward, for t = 0..far, and
-/// `probes` counts the questions that it asked. It has no depth yet.
-#[derive(Drop)]
-pub struct Marching {
-    start: Point,
-    toward: Direction,
-    far: u32,
-    t: u32,
-    probes: u32,
+/// The ray of a pixel: the points start + t toward, for t = 0..far. All of them lie in the working
+/// range.
+#[derive(Clone, Copy)]
+pub struct Ray {
+    pub(crate) start: Point,
+    pub(crate) toward: Direction,
+    pub(crate) far: u32,
     ghost left: { unsigned_abs start.x ≤ 16510 },
     ghost low: { unsigned_abs start.y ≤ 16510 },
     ghost near: { unsigned_abs start.z ≤ 16510 },
     ghost close: { far ≤ 4095 },
-    ghost onto: { t ≤ far },
+}
+
+/// A ray that marches. It has come to `t`, and `probes` counts the questions that it asked. It has
+/// no depth yet.
+#[derive(Drop)]
+pub struct Marching {
+    ray: Ray,
+    t: u32,
+    probes: u32,
+    ghost onto: { t ≤ ray.far },
     ghost counted: { probes ≤ t },
 }
 
@@ -43,7 +50,8 @@ impl Marching {
     }
 }
 
-/// How a ray settled: at the depth of its first contact, or with none up to its end.
+/// How a ray settled: at the depth of its first contact, or with none up to its end. An `Option` of
+/// the depth would name a miss as what is lacking, and would not say that the ray has settled.
 #[derive(Clone, Copy, PartialEq, Eq, Debug)]
 pub enum Outcome {
     Hit { depth: u32 },
@@ -57,7 +65,8 @@ pub struct Settled {
     probes: u32,
 }
 
-/// What a step leaves: a ray that marches on, or one that has settled.
+/// What a step leaves: a ray that marches on, or one that has settled. Neither of the two is a
+/// fault, as a `Result` would have it.
 #[derive(Drop)]
 pub enum Stepped {
     On(Marching),
@@ -71,14 +80,12 @@ pub enum StepFault {
     Shallow,
 }
 
-const SHALLOW: u32 = 16;
-
 impl Refusal for StepFault {
     ghost told = { step_told };
 
     fn number(&self) -> u32 {
         match self {
-            StepFault::Shallow => SHALLOW,
+            StepFault::Shallow => Rule::Shallow.number(),
         }
     }
 
@@ -96,15 +103,13 @@ pub enum RayFault {
     NoPixel,
 }
 
-const NO_PIXEL: u32 = 19;
-
 impl Refusal for RayFault {
     ghost told = { ray_told };
 
     fn number(&self) -> u32 {
         match self {
             RayFault::View(fault) => fault.number(),
-            RayFault::NoPixel => NO_PIXEL,
+            RayFault::NoPixel => Rule::NoPixel.number(),
         }
     }
 

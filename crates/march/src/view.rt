@@ -1,10 +1,12 @@
 //! A view: where the rays of a picture start, and where they go.
-ghost use Rattle.std.specs.Prelude.{◌≤◌, unsigned_abs};
+ghost use Rattle.std.specs.Prelude.{◌≡◌, ◌≤◌, unsigned_abs};
+ghost use Rattle.march.specs.declared.view.ViewFault.TheVariants.{Range};
 ghost use Rattle.march.specs.Told.{view_told};
 
 use lattice::Point;
 use lattice::direction::Direction;
-use refusal::Refusal;
+use refusal::range::OutOfRange;
+use refusal::{Refusal, Rule};
 
 pub mod checks;
 pub mod points;
@@ -51,24 +53,27 @@ pub enum ViewFault {
     Row { place: u32 },
 }
 
-const OUT_OF_RANGE: u32 = 4;
-
-const NO_ROW: u32 = 5;
-
 impl Refusal for ViewFault {
     ghost told = { view_told };
 
     fn number(&self) -> u32 {
         match self {
-            ViewFault::Range { .. } => OUT_OF_RANGE,
-            ViewFault::Row { .. } => NO_ROW,
+            ViewFault::Range { .. } => Rule::Range.number(),
+            ViewFault::Row { .. } => Rule::Row.number(),
         }
     }
 
     fn place(&self) -> u32 {
         match self {
-            ViewFault::Range { place } => *place,
-            ViewFault::Row { place } => *place,
+            ViewFault::Range { place } | ViewFault::Row { place } => *place,
         }
+    }
+}
+
+impl From<OutOfRange> for ViewFault {
+    ghost from_gives = { λ e r. r ≡ Range e.place };
+
+    fn from(fault: OutOfRange) -> ViewFault {
+        ViewFault::Range { place: fault.place }
     }
 }

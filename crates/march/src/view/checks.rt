@@ -1,11 +1,12 @@
 //! The numbers of a view, checked in the order of a job.
 ghost use Rattle.std.specs.Prelude.{◌≡◌};
-ghost use Rattle.march.specs.Checks.{range_answer, count_answer, row_answer, origin_answer, ways_answer, sizes_answer, view_answer};
+ghost use Rattle.march.specs.Checks.{part_answer, count_answer, row_answer, origin_answer, ways_answer, sizes_answer, view_answer};
 ghost use Rattle.march.specs.Checks.{way_in, ways_in, plain_in};
 
 use super::{View, ViewFault, ViewNumbers};
 use lattice::Point;
 use lattice::direction::Direction;
+use refusal::range::in_range;
 
 /// The parts of an origin.
 const LEAST_PART: i32 = -16384;
@@ -17,41 +18,43 @@ const MOST_PIXELS: i32 = 64;
 
 const MOST_FAR: i32 = 4095;
 
-/// The number at a place, from least to most.
-fn ranged(n: i32, least: i32, most: i32, place: u32) -> Result<i32, ViewFault>
-    ensures { result ≡ range_answer least most n place }
-{
-    if n < least || n > most {
-        return Err(ViewFault::Range { place });
-    }
-    Ok(n)
-}
-
-/// The same, for what is counted and so is not below 0.
+/// What is counted, and so is not below 0.
+#[tactic(auto, unfolding(crate::specs::Checks::count_answer, crate::specs::Checks::range_answer))]
 fn count(n: i32, least: i32, most: i32, place: u32) -> Result<u32, ViewFault>
     ensures { result ≡ count_answer least most n place }
 {
-    Ok(ranged(n, least, most, place)?.unsigned_abs())
+    Ok(in_range(n, least, most, place)?.unsigned_abs())
 }
 
 /// The direction of the row at a place.
+#[tactic(auto, unfolding(crate::specs::Checks::row_answer))]
 fn row(n: i32, place: u32) -> Result<Direction, ViewFault>
     ensures { way_in result ≡ row_answer n place }
 {
     Direction::of_row(n).ok_or(ViewFault::Row { place })
 }
 
+/// A part of the origin, which stands at a place.
+#[tactic(auto, unfolding(crate::specs::Checks::range_answer))]
+fn part(n: i32, place: u32) -> Result<i32, ViewFault>
+    ensures { result ≡ part_answer n place }
+{
+    Ok(in_range(n, LEAST_PART, MOST_PART, place)?)
+}
+
 /// The numbers at places 1 to 3.
+#[tactic(auto, unfolding(crate::specs::Checks::origin_answer))]
 fn origin(n: ViewNumbers) -> Result<Point, ViewFault>
     ensures { result ≡ origin_answer n }
 {
-    let x = ranged(n.origin.x, LEAST_PART, MOST_PART, 1)?;
-    let y = ranged(n.origin.y, LEAST_PART, MOST_PART, 2)?;
-    let z = ranged(n.origin.z, LEAST_PART, MOST_PART, 3)?;
+    let x = part(n.origin.x, 1)?;
+    let y = part(n.origin.y, 2)?;
+    let z = part(n.origin.z, 3)?;
     Ok(Point { x, y, z })
 }
 
 /// The rows at places 4 to 6.
+#[tactic(auto, unfolding(crate::specs::Checks::ways_answer))]
 fn ways(n: ViewNumbers) -> Result<(Direction, Direction, Direction), ViewFault>
     ensures { ways_in result ≡ ways_answer n }
 {
@@ -62,6 +65,7 @@ fn ways(n: ViewNumbers) -> Result<(Direction, Direction, Direction), ViewFault>
 }
 
 /// The numbers at places 7 to 9.
+#[tactic(auto, unfolding(crate::specs::Checks::sizes_answer))]
 fn sizes(n: ViewNumbers) -> Result<(u32, u32, u32), ViewFault>
     ensures { result ≡ sizes_answer n }
 {

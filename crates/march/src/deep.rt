@@ -1,0 +1,26 @@
+//! Solids that answer on all of the working range.
+ghost use Rattle.std.specs.Prelude.{◌≡◌, ◌<◌, ◌≤◌, MatchOption};
+
+use solid::Solid;
+
+/// The working range is the points whose coordinates are at most this, in size.
+const WORKING: u32 = 32_767;
+
+/// A solid that is lent, and answers on all of the working range. Every point of a ray lies there.
+#[derive(Drop)]
+pub struct Deep<'a, S: Solid> {
+    pub(crate) solid: &'a S,
+    ghost far_enough: { 32767 ≤ (S.Solid.body solid.now).reach },
+}
+
+impl<'a, S: Solid> Deep<'a, S> {
+    /// That solid; none where its reach is under 32,767.
+    pub fn of(solid: &'a S) -> Option<Deep<'a, S>>
+        ensures { MatchOption result ((S.Solid.body solid.now).reach < 32767) (λ deep. deep.solid.now ≡ solid.now) }
+    {
+        if solid.reach() < WORKING {
+            return None;
+        }
+        Some(Deep { solid })
+    }
+}
