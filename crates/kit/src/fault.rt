@@ -8,6 +8,7 @@ use readers::job::JobFault;
 use readers::surface::SurfaceReadFault;
 use refusal::{Refusal, Rule};
 use scene_reader::fault::SceneFault;
+use words::kind::Kind;
 
 /// Why an input is refused. It has four parts, by their numbers: 1 job, 2 scene, 3 surface, 4
 /// the whole.
@@ -32,9 +33,6 @@ enum Part {
     Surface = 3,
     Whole = 4,
 }
-
-/// Bits 31..28 of a word are its kind.
-const REFUSAL: u32 = 14 * 0x1000_0000;
 
 /// Bits 27..24 of a refusal are the part, 23..16 the number, 15..0 the place.
 const PARTS: u32 = 0x100_0000;
@@ -61,7 +59,8 @@ impl InputFault {
     pub(crate) fn word(&self) -> u32
         ensures { result ≡ refusal_of self.now }
     {
-        REFUSAL + (self.part() * PARTS + self.number() * NUMBERS + self.place().min(MOST_PLACE))
+        let place = self.place().min(MOST_PLACE);
+        Kind::Refusal.word(self.part() * PARTS + self.number() * NUMBERS + place)
     }
 }
 

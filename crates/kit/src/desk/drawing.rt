@@ -20,6 +20,7 @@ use crate::read_parts;
 use layers::{Cap, Meet, Shift, Thicken, Unite};
 use leaves::axis_box::AxisBox;
 use leaves::surface::{Sheet, Surface};
+use march::deep::Deep;
 use march::view::ViewNumbers;
 use plate::Plate;
 use readers::job::Job;
@@ -33,9 +34,6 @@ const MOST_HEIGHTS: usize = 4096;
 
 /// No stride is above this.
 const LONGEST_STRIDE: i32 = 64;
-
-/// A solid is taken where it answers at every point whose coordinates are at most this, in size.
-const WORKING: u32 = 32_767;
 
 /// Only an exact scene has a guard above 0.
 fn may_be_guarded(scene: &Scene, guard: u32) -> bool
@@ -87,7 +85,7 @@ impl Desk<'_> {
         let clip = AxisBox::new(job.lo, job.hi).unwrap();
         let moved = Shift::new(sheet, job.shift).unwrap();
         let pile = Cap::new(Meet::new(clip, Unite::new(moved, scene)), LONGEST_STRIDE).unwrap();
-        if pile.reach() < WORKING {
+        if Deep::of(&pile).is_none() {
             return Err(InputFault::Shallow);
         }
         Ok(self.picture(&pile, job.view))
