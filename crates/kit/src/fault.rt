@@ -42,7 +42,8 @@ const NUMBERS: u32 = 0x1_0000;
 const MOST_PLACE: u32 = 0xffff;
 
 impl InputFault {
-    /// The part that is refused, by its number.
+    /// The part that is refused, by its number: like the number and the place it is written into a
+    /// word and told as it is.
     pub fn part(&self) -> u32
         ensures { result ≡ (input_told self.now).0 }
     {

@@ -111,6 +111,7 @@ impl Desk<'_> {
         }
         let sheet = Sheet::check(size.width as i32, size.depth as i32, heights).unwrap();
         let surface = Surface::new(sheet, heights);
+        // The guard is no Option: it is the job's own number, in which 0 leaves the layer out.
         if job.guard == 0 {
             return self.pile_up(surface, scene, job);
         }
