@@ -1,4 +1,4 @@
-use Rattle.std.proofs.Common.{◌≡◌, ℕ, ◌≤◌, List, ◌++◌, length, drop, replicate, is_ok, ap, ◌∙◌, subst, lit≤, rules}
+use Rattle.std.proofs.Common.{◌≡◌, ℕ, ◌≤◌, List, ◌++◌, length, drop, replicate, is_ok, refl, ap, ◌∙◌, subst, lit≤, rules}
 use mathlib.Core.Path.{subst⁻¹}
 use Rattle.march.specs.declared.pixel.Pixel.{Pixel}
 use Rattle.march.specs.declared.view.View.{View}
@@ -27,8 +27,8 @@ unwrap-requires-3 g c =
     c.args.self.now.out.now c.write.new.out c.write.result c.args.self.now.room
     (subst (λ (v : View). ◌≡◌ {A = Answer × List ℕ} (bytes_of c.write.result c.write.new.out, c.write.new.out) (written v s.records.now c.args.self.now.out.now)) c.sweep.ensures.view c.write.ensures.line)).1
 
-pub returns-clause-value : goal.returns-clause-value
-returns-clause-value g c =
+pub returns : goal.returns
+returns g c =
     let p = c.new-plate.result in
     let q = c.open.new.self in
     let s = c.sweep.new.self in
@@ -37,18 +37,10 @@ returns-clause-value g c =
     let o = opens c.args.view (plain_view p.view) p.records.now c.open.result (plain_view q.view) q.records.now c.open.ensures.value c.requires.seen few in
     let new = o.2 ∙ ap (λ (rs : List Pixel). replicate (area q.view) fresh ++ drop (area q.view) rs) lent in
     let line = subst (λ (v : View). ◌≡◌ {A = Answer × List ℕ} (bytes_of c.write.result c.write.new.out, c.write.new.out) (written v s.records.now c.args.self.now.out.now)) c.sweep.ensures.view c.write.ensures.line in
-    shot_is q.view (g.S.Solid.body c.args.pile.now) c.requires.deep c.args.view c.args.self.now.records.now q.records.now s.records.now o.1 new (counts_of c.sweep.result) c.sweep.ensures.line
-    c.args.self.now.out.now c.write.new.out c.write.result c.args.self.now.room line c.unwrap-3.result c.unwrap-3.ensures _ (search rules)
-
-pub returns-clause-shows : goal.returns-clause-shows
-returns-clause-shows g c =
-    let p = c.new-plate.result in
-    let q = c.open.new.self in
-    let s = c.sweep.new.self in
-    let lent : p.records.now ≡ c.args.self.now.records.now = c.new-plate.ensures.value.0 in
-    let few : 4096 ≤ length p.records.now = subst⁻¹ (λ rs. 4096 ≤ length rs) lent c.args.self.now.many in
-    let o = opens c.args.view (plain_view p.view) p.records.now c.open.result (plain_view q.view) q.records.now c.open.ensures.value c.requires.seen few in
-    let new = o.2 ∙ ap (λ (rs : List Pixel). replicate (area q.view) fresh ++ drop (area q.view) rs) lent in
-    let line = subst (λ (v : View). ◌≡◌ {A = Answer × List ℕ} (bytes_of c.write.result c.write.new.out, c.write.new.out) (written v s.records.now c.args.self.now.out.now)) c.sweep.ensures.view c.write.ensures.line in
-    shows_it q.view (g.S.Solid.body c.args.pile.now) c.requires.deep c.args.view c.args.self.now.records.now q.records.now s.records.now o.1 new (counts_of c.sweep.result) c.sweep.ensures.line
-    c.args.self.now.out.now c.write.new.out c.write.result c.args.self.now.room line c.unwrap-3.result c.unwrap-3.ensures
+    record {
+      value = shot_is q.view (g.S.Solid.body c.args.pile.now) c.requires.deep c.args.view c.args.self.now.records.now q.records.now s.records.now o.1 new (counts_of c.sweep.result) c.sweep.ensures.line
+          c.args.self.now.out.now c.write.new.out c.write.result c.args.self.now.room line c.unwrap-3.result c.unwrap-3.ensures _ (search rules);
+      shows = shows_it q.view (g.S.Solid.body c.args.pile.now) c.requires.deep c.args.view c.args.self.now.records.now q.records.now s.records.now o.1 new (counts_of c.sweep.result) c.sweep.ensures.line
+          c.args.self.now.out.now c.write.new.out c.write.result c.args.self.now.room line c.unwrap-3.result c.unwrap-3.ensures;
+      lender = (refl, refl);
+    }
