@@ -4,13 +4,11 @@
 ghost use Rattle.std.specs.Prelude.{◌≡◌};
 ghost use Rattle.depth_c.specs.Exported.{exported};
 
-use kit::render;
+use kit::{MOST_PIXELS, render};
 use march::pixel::Pixel;
 
-/// The records that the call wants.
-const RECORDS: usize = 4096;
-
-/// What is answered where nothing is written.
+/// What is answered where nothing is written. C has no `Result`: a length of 0, which no answer has,
+/// stands for a refused call.
 const NOTHING: usize = 0;
 
 /// Reads a model, writes its depth image or the word of its refusal in front of the bytes, and
@@ -19,9 +17,6 @@ const NOTHING: usize = 0;
 pub extern "C" fn depth_render(input: &[u8], out: &mut [u8]) -> usize
     ensures { (result, out.new) ≡ exported input.now out.old }
 {
-    let mut records = [Pixel::Miss { probes: 0 }; RECORDS];
-    match render(input, &mut records, out) {
-        Ok(length) => length,
-        Err(_) => NOTHING,
-    }
+    let mut records = [Pixel::Miss { probes: 0 }; MOST_PIXELS];
+    render(input, &mut records, out).unwrap_or(NOTHING)
 }

@@ -7,7 +7,7 @@ use Rattle.geometry.specs.Leaves.{ordered}
 use Rattle.march.specs.declared.pixel.Pixel.{Pixel}
 use Rattle.march.specs.Checks.{view_answer}
 use Rattle.words.specs.Words.{four}
-use Rattle.words.specs.Reading.{and_then, unless, bare_at}
+use Rattle.words.specs.Reading.{unless, bare_at}
 use Rattle.words.proofs.Chains.{first_ok, test_held, same_ok}
 use Rattle.readers.specs.declared.surface.SurfaceSize.{SurfaceSize}
 use Rattle.readers.specs.declared.job.JobFault.TheVariants.{Corners}
@@ -40,26 +40,21 @@ heights_same j b s hs e =
     let n = s.width * s.depth in
     ap (λ (ks : List ℤ). record { job = j; scene = b; width = s.width; depth = s.depth; heights = ks }) (take_all n (take n hs) (omega arith))
 
+-- of a model whose guard its scene may have, only the reach is left to be looked at
+pub over_whole : (m : Model) (rs : List Pixel) (out : List ℕ) → (eqb m.job.guard 0 || m.scene.exact) ≡ true → over (pile_of m) m.job.view rs out ≡ tried (whole m) rs out
+over_whole m rs out x =
+    sym (ap (λ (r : Result Model InputFault). tried r rs out) (cond-true (eqb m.job.guard 0 || m.scene.exact) _ _ x) ∙ by (leb 32767 (pile_of m).reach))
+  where
+    by : (d : Bool) → tried (unless d Shallow (Ok m)) rs out ≡ cond d (taken (pile_of m) m.job.view rs out) (Err Shallow, rs, out)
+    by true = refl
+    by false = refl
+
 module _ (bs : List ℕ) (j : JobNumbers) (b : Body) (s : SurfaceSize) (hs : List ℤ) (e : parts_of bs ≡ Ok (model_of j b s hs)) (long : length (take (s.width * s.depth) hs) ≡ s.width * s.depth) where
   abbrev m : Model
   m = model_of j b s hs
 
   abbrev handed : Model
   handed = model_of j b s (take (s.width * s.depth) hs)
-
-  -- only the reach is left to be looked at
-  reached : (rs : List Pixel) (out : List ℕ) → (eqb j.guard 0 || b.exact) ≡ true → over (pile_of m) j.view rs out ≡ tried (parsed bs) rs out
-  reached rs out x =
-      sym (ap (λ (r : Result Model InputFault). tried (and_then r whole) rs out) e
-      ∙ ap (λ (r : Result Model InputFault). tried r rs out) (cond-true (eqb j.guard 0 || b.exact) _ _ x)
-      ∙ by (leb 32767 (pile_of m).reach))
-    where
-      by : (d : Bool) → tried (unless d Shallow (Ok m)) rs out ≡ cond d (taken (pile_of m) j.view rs out) (Err Shallow, rs, out)
-      by true = refl
-      by false = refl
-
-  pub tried_so : (rs : List Pixel) (out : List ℕ) → (eqb j.guard 0 || b.exact) ≡ true → over (pile_of handed) j.view rs out ≡ tried (parsed bs) rs out
-  tried_so rs out x = ap (λ (m : Model). over (pile_of m) j.view rs out) (heights_same j b s hs long) ∙ reached rs out x
 
   pub shown_so : (r : Result ℕ InputFault) (text : List ℕ) → IfOk r (λ _. Contact handed text) → IfOk r (λ _. (m : Model) → parsed bs ≡ Ok m → Contact m text)
   shown_so (Ok k) text c = λ m' p. subst (λ (m : Model). Contact m text) (heights_same j b s hs long ∙ same_ok m m' (sym e ∙ parsed_parts bs m' p)) c
@@ -111,12 +106,13 @@ refused_so bs rs qs out text e h = by (parsed bs) refl h
         let same : d ≡ e = cc in
         record { is = is ∙ ap Err same; records = ap (λ (l : Left InputFault). l.1) h; bytes = ap (λ (l : Left InputFault). l.2) h }
 
-pub refusal_written : (bs : List ℕ) (rs qs : List Pixel) (out text new : List ℕ) (e : InputFault) (n word : ℕ)
-    → Refused bs e rs qs out text → word ≡ refusal_of e → new ≡ four word ++ drop 4 text → n ≡ 4 → ◌≡◌ {A = ℕ × List Pixel × List ℕ} (n, qs, new) (drawn (parsed bs) rs out)
+pub refusal_written : (bs : List ℕ) (rs qs new_qs : List Pixel) (out text new : List ℕ) (e : InputFault) (n word : ℕ)
+    → Refused bs e rs qs out text → new_qs ≡ qs → word ≡ refusal_of e → new ≡ four word ++ drop 4 text → n ≡ 4 → ◌≡◌ {A = ℕ × List Pixel × List ℕ} (n, new_qs, new) (drawn (parsed bs) rs out)
 unfolding drawn
-refusal_written bs rs qs out text new e n word r w f l =
+refusal_written bs rs qs new_qs out text new e n word r k w f l =
     let g : new ≡ four (refusal_of e) ++ drop 4 out = f ∙ (λ t. four (w t) ++ drop 4 (r.bytes t)) in
-    (λ t. (l t, r.records t, g t)) ∙ sym (ap (λ (p : Result Model InputFault). drawn p rs out) r.is)
+    let h : new_qs ≡ rs = k ∙ r.records in
+    (λ t. (l t, h t, g t)) ∙ sym (ap (λ (p : Result Model InputFault). drawn p rs out) r.is)
 
 pub nothing_shown : (bs : List ℕ) (rs qs : List Pixel) (out text new : List ℕ) (e : InputFault) → Refused bs e rs qs out text → (m : Model) → parsed bs ≡ Ok m → Contact m new
 nothing_shown bs rs qs out text new e r m p = let z : ◌≡◌ {A = Result Model InputFault} (Err e) (Ok m) = sym r.is ∙ p in let z : ◌≡◌ {A = ℕ} 0 1 = cc in absurd (omega arith)

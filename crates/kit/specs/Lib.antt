@@ -3,3 +3,4 @@ pub mod Models
 pub mod Render
 pub mod Laws
 pub mod Steps
+pub mod Loans

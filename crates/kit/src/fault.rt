@@ -1,14 +1,17 @@
 //! Why an input is refused, and why the call is.
 ghost use Rattle.std.specs.Prelude.{◌≡◌, ℕ};
+ghost use Rattle.kit.specs.Render.{refusal_of};
 ghost use Rattle.kit.specs.Told.{input_told, number_told, render_told};
 ghost use Rattle.kit.specs.declared.fault.InputFault.TheVariants.{Job, Scene, Surface};
 
 use readers::job::JobFault;
 use readers::surface::SurfaceReadFault;
-use refusal::Refusal;
+use refusal::{Refusal, Rule};
 use scene_reader::fault::SceneFault;
+use words::kind::Kind;
 
-/// Why an input is refused. It has four parts: 1 job, 2 scene, 3 surface, 4 the whole.
+/// Why an input is refused. It has four parts, by their numbers: 1 job, 2 scene, 3 surface, 4
+/// the whole.
 #[derive(Clone, Copy, PartialEq, Eq, Debug)]
 pub enum InputFault {
     Job(JobFault),
@@ -22,31 +25,43 @@ pub enum InputFault {
     Shallow,
 }
 
-const JOB: u32 = 1;
+/// The parts of an input.
+#[derive(Clone, Copy)]
+enum Part {
+    Job = 1,
+    Scene = 2,
+    Surface = 3,
+    Whole = 4,
+}
 
-const SCENE: u32 = 2;
+/// Bits 27..24 of a refusal are the part, 23..16 the number, 15..0 the place.
+const PARTS: u32 = 0x100_0000;
 
-const SURFACE: u32 = 3;
+const NUMBERS: u32 = 0x1_0000;
 
-const WHOLE: u32 = 4;
-
-const LEFT: u32 = 14;
-
-const INEXACT: u32 = 15;
-
-const SHALLOW: u32 = 16;
+const MOST_PLACE: u32 = 0xffff;
 
 impl InputFault {
-    /// The part that is refused.
+    /// The part that is refused, by its number: like the number and the place it is written into a
+    /// word and told as it is.
     pub fn part(&self) -> u32
         ensures { result ≡ (input_told self.now).0 }
     {
-        match self {
-            InputFault::Job(_) => JOB,
-            InputFault::Scene(_) => SCENE,
-            InputFault::Surface(_) => SURFACE,
-            _ => WHOLE,
-        }
+        let part = match self {
+            InputFault::Job(_) => Part::Job,
+            InputFault::Scene(_) => Part::Scene,
+            InputFault::Surface(_) => Part::Surface,
+            InputFault::Left | InputFault::Inexact | InputFault::Shallow => Part::Whole,
+        };
+        part as u32
+    }
+
+    /// The word that tells it.
+    pub(crate) fn word(&self) -> u32
+        ensures { result ≡ refusal_of self.now }
+    {
+        let place = self.place().min(MOST_PLACE);
+        Kind::Refusal.word(self.part() * PARTS + self.number() * NUMBERS + place)
     }
 }
 
@@ -58,9 +73,9 @@ impl Refusal for InputFault {
             InputFault::Job(fault) => fault.number(),
             InputFault::Scene(fault) => fault.number(),
             InputFault::Surface(fault) => fault.number(),
-            InputFault::Left => LEFT,
-            InputFault::Inexact => INEXACT,
-            InputFault::Shallow => SHALLOW,
+            InputFault::Left => Rule::Left.number(),
+            InputFault::Inexact => Rule::Guard.number(),
+            InputFault::Shallow => Rule::Shallow.number(),
         }
     }
 
@@ -107,17 +122,13 @@ pub enum RenderFault {
     Room,
 }
 
-const TOO_FEW_RECORDS: u32 = 18;
-
-const NO_ROOM: u32 = 21;
-
 impl Refusal for RenderFault {
     ghost told = { render_told };
 
     fn number(&self) -> u32 {
         match self {
-            RenderFault::Records => TOO_FEW_RECORDS,
-            RenderFault::Room => NO_ROOM,
+            RenderFault::Records => Rule::Buffer.number(),
+            RenderFault::Room => Rule::NoRoom.number(),
         }
     }
 

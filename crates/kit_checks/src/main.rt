@@ -4,15 +4,10 @@
 #![tactic(auto)]
 
 use anyhow::anyhow;
-use kit::render;
+use kit::{MOST_BYTES, MOST_PIXELS, render};
 use march::pixel::Pixel;
-use refusal::Refusal;
+use refusal::told::Told;
 use std::alloc::Global;
-
-/// The records and the bytes that the call wants.
-const RECORDS: usize = 4096;
-
-const BYTES: usize = 16_392;
 
 /// What the records and the bytes hold before a call.
 const UNTOUCHED: Pixel = Pixel::Miss { probes: 7 };
@@ -22,63 +17,27 @@ const BLANK: u8 = 0xaa;
 /// The bytes of a refusal word.
 const WORD: usize = 4;
 
-/// The value of a hexadecimal digit.
-fn digit(letter: u8) -> Option<u8> {
-    match letter {
-        b'0'..=b'9' => Some(letter - b'0'),
-        b'a'..=b'f' => Some(letter - b'a' + 10),
-        _ => None,
-    }
-}
-
-/// The byte of two hexadecimal digits.
-fn byte(pair: &[u8]) -> Option<u8> {
-    let [high, low] = pair else {
-        return None;
-    };
-    let high = digit(*high)?;
-    let low = digit(*low)?;
-    high.checked_mul(16)?.checked_add(low)
-}
-
 /// The bytes that a text in hexadecimal has.
 fn decoded(heap: Global, text: &str) -> anyhow::Result<Vec<u8>> {
-    let mut bytes = Vec::new(heap);
-    for pair in text.as_bytes().chunks(2) {
-        match byte(pair) {
-            Some(b) => bytes.push(b)?,
-            None => return Err(anyhow!("a line of the sample is not hexadecimal")),
-        }
-    }
-    Ok(bytes)
+    hex::decode(heap, text).map_err(|_| anyhow!("a line of the sample is not hexadecimal"))
 }
 
 /// Are all bytes from the place `from` on blank?
 fn is_blank(bytes: &[u8], from: usize) -> bool {
-    for b in bytes.iter().skip(from) {
-        if *b != BLANK {
-            return false;
-        }
-    }
-    true
+    bytes.iter().skip(from).all(|byte| *byte == BLANK)
 }
 
 /// Are all records as they were?
 fn is_untouched(records: &[Pixel]) -> bool {
-    for record in records {
-        if *record != UNTOUCHED {
-            return false;
-        }
-    }
-    true
+    records.iter().all(|record| *record == UNTOUCHED)
 }
 
 /// Does the call write the expected bytes, and no others? A refused input leaves the records.
 fn agrees(heap: Global, input: &[u8], expected: &[u8]) -> anyhow::Result<bool> {
     let mut records = Vec::new(heap);
-    records.resize(RECORDS, UNTOUCHED)?;
+    records.resize(MOST_PIXELS, UNTOUCHED)?;
     let mut out = Vec::new(heap);
-    out.resize(BYTES, BLANK)?;
+    out.resize(MOST_BYTES, BLANK)?;
     let Ok(length) = render(input, &mut records, &mut out) else {
         return Ok(false);
     };
@@ -102,29 +61,30 @@ fn tell_refused(rt: &HostRuntime, records: usize, bytes: usize) -> anyhow::Resul
         Err(fault) => {
             let kept = is_untouched(&lent) && is_blank(&out, 0);
             println!(rt;
-                "{records} records, {bytes} bytes: refused, number {}, place {}; nothing written: {kept}",
-                fault.number(),
-                fault.place()
+                "{records} records, {bytes} bytes: refused, {}; nothing written: {kept}",
+                Told::of(&fault)
             )?
         }
     }
     Ok(())
 }
 
+/// Does the call agree with a line of the sample?
+fn line_agrees(heap: Global, line: &str) -> anyhow::Result<bool> {
+    let Some((input, expected)) = line.split_once(' ') else {
+        return Err(anyhow!("a line of the sample has no space"));
+    };
+    agrees(heap, &decoded(heap, input)?, &decoded(heap, expected)?)
+}
+
 /// Goes through the sample, and tells each line that does not agree.
 fn tell_sample(rt: &HostRuntime) -> anyhow::Result<()> {
     let heap = rt.alloc();
-    let mut lines: u64 = 0;
-    let mut agreed: u64 = 0;
-    for line in rt.lines(heap) {
-        let line = line?;
-        lines = lines.saturating_add(1);
-        let Some((input, expected)) = line.as_str().split_once(' ') else {
-            return Err(anyhow!("a line of the sample has no space"));
-        };
-        let input = decoded(heap, input)?;
-        let expected = decoded(heap, expected)?;
-        if agrees(heap, &input, &expected)? {
+    let mut lines = 0;
+    let mut agreed: usize = 0;
+    for (k, line) in rt.lines(heap).enumerate() {
+        lines = k + 1;
+        if line_agrees(heap, line?.as_str())? {
             agreed = agreed.saturating_add(1);
         } else {
             println!(rt; "line {lines} of the sample does not agree")?;
@@ -135,10 +95,10 @@ fn tell_sample(rt: &HostRuntime) -> anyhow::Result<()> {
 }
 
 fn tell(rt: &HostRuntime) -> anyhow::Result<()> {
-    tell_refused(rt, RECORDS - 1, BYTES)?;
-    tell_refused(rt, RECORDS, BYTES - 1)?;
-    tell_refused(rt, RECORDS - 1, BYTES - 1)?;
-    tell_refused(rt, RECORDS, BYTES)?;
+    tell_refused(rt, MOST_PIXELS - 1, MOST_BYTES)?;
+    tell_refused(rt, MOST_PIXELS, MOST_BYTES - 1)?;
+    tell_refused(rt, MOST_PIXELS - 1, MOST_BYTES - 1)?;
+    tell_refused(rt, MOST_PIXELS, MOST_BYTES)?;
     tell_sample(rt)
 }
 

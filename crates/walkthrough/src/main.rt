@@ -10,6 +10,7 @@ use leaves::fault::LeafFault;
 use march::rays::{Marching, Outcome, Settled, Stepped};
 use march::view::ViewNumbers;
 use refusal::Refusal;
+use refusal::told::Told;
 use solid::Solid;
 
 mod played;
@@ -22,11 +23,7 @@ fn point(x: i32, y: i32, z: i32) -> Point {
 }
 
 fn refused<F: Refusal>(rt: &HostRuntime, what: &str, fault: &F) -> anyhow::Result<()> {
-    println!(rt;
-        "{what} is refused: number {}, place {}",
-        fault.number(),
-        fault.place()
-    )?;
+    println!(rt; "{what} is refused: {}", Told::of(fault))?;
     Ok(())
 }
 
@@ -63,14 +60,9 @@ fn send<S: Solid>(
             )?;
         }
         match ray.step(pile) {
-            Ok(stepped) => match stepped {
-                Stepped::On(next) => ray = next,
-                Stepped::Done(end) => return settled(rt, end),
-            },
-            Err(stopped) => {
-                let (fault, _ray) = stopped;
-                return refused(rt, "the step", &fault);
-            }
+            Ok(Stepped::On(next)) => ray = next,
+            Ok(Stepped::Done(end)) => return settled(rt, end),
+            Err((fault, _)) => return refused(rt, "the step", &fault),
         }
     }
     Ok(())
@@ -78,10 +70,7 @@ fn send<S: Solid>(
 
 /// What was made; the solids of this task are never refused.
 fn made<T, F: Refusal + Drop>(res: Result<T, F>) -> anyhow::Result<T> {
-    match res {
-        Ok(solid) => Ok(solid),
-        Err(_) => Err(anyhow!("a solid of the walkthrough is refused")),
-    }
+    res.map_err(|_| anyhow!("a solid of the walkthrough is refused"))
 }
 
 /// A boss under a clamp: a ball united with a box that is shifted into place, both thickened by

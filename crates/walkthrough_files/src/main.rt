@@ -2,17 +2,12 @@
 #![tactic(auto)]
 
 use anyhow::anyhow;
-use kit::render;
+use kit::{MOST_BYTES, MOST_PIXELS, render};
 use march::pixel::Pixel;
-use picture::{tell_answer, tell_changes, tell_words, words};
+use picture::{tell_answer, tell_changes, tell_words, words_of};
 
 mod model;
 mod picture;
-
-/// The records and the bytes that the call wants.
-const RECORDS: usize = 4096;
-
-const BYTES: usize = 16_392;
 
 /// The word of the scene that is damaged, the strap's third number; the job's words stand before
 /// the scene in the file.
@@ -28,22 +23,22 @@ const DAMAGE: u8 = 0x70;
 fn rendered(rt: &HostRuntime, file: &[u8]) -> anyhow::Result<Vec<u32>> {
     let heap = rt.alloc();
     let mut records = Vec::new(heap);
-    records.resize(RECORDS, Pixel::Miss { probes: 0 })?;
+    records.resize(MOST_PIXELS, Pixel::Miss { probes: 0 })?;
     let mut out = Vec::new(heap);
-    out.resize(BYTES, 0)?;
+    out.resize(MOST_BYTES, 0)?;
     let Ok(length) = render(file, &mut records, &mut out) else {
         return Err(anyhow!("the walkthrough lends too little"));
     };
     out.truncate(length);
     println!(rt; "rendered: {} bytes in, {length} bytes out", file.len())?;
-    let words = words(heap, &out)?;
+    let words = words_of(heap, &out)?;
     tell_answer(rt, &words)?;
     Ok(words)
 }
 
 /// Tells the words of one part of a file.
 fn tell_part(rt: &HostRuntime, what: &str, part: &[u8]) -> anyhow::Result<()> {
-    let words = words(rt.alloc(), part)?;
+    let words = words_of(rt.alloc(), part)?;
     tell_words(rt, what, &words)
 }
 

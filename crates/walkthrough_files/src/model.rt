@@ -1,20 +1,6 @@
 //! The bytes of a model: a job, a scene and a surface, written word by word.
 use std::alloc::{AllocError, Global};
-
-/// A word's kind, in bits 31..28.
-const SCENE: u32 = 0x1000_0000;
-
-const NUMBER: u32 = 0x2000_0000;
-
-const BALL: u32 = 0x3000_0000;
-
-const BLOCK: u32 = 0x4000_0000;
-
-const UNITE: u32 = 0x5000_0000;
-
-const SURFACE: u32 = 0x9000_0000;
-
-const JOB: u32 = 0xd000_0000;
+use words::kind::Kind;
 
 /// The words of each node, its numbers among them.
 const BALL_WORDS: u32 = 5;
@@ -35,13 +21,19 @@ const STOCK_WIDTH: u32 = 10 * 0x1_0000;
 
 const STOCK_DEPTH: u32 = 4;
 
-fn word(file: &mut Vec<u8>, word: u32) -> Result<(), AllocError> {
-    file.extend_from_slice(&word.to_le_bytes())
+/// A word of a kind, with what its other bits say.
+fn word(file: &mut Vec<u8>, kind: Kind, rest: u32) -> Result<(), AllocError> {
+    file.extend_from_slice(&kind.word(rest).to_le_bytes())
+}
+
+/// A word that says no more than its kind.
+fn bare(file: &mut Vec<u8>, kind: Kind) -> Result<(), AllocError> {
+    word(file, kind, 0)
 }
 
 fn numbers(file: &mut Vec<u8>, numbers: &[i16]) -> Result<(), AllocError> {
     for number in numbers {
-        word(file, NUMBER | u32::from(number.cast_unsigned()))?;
+        word(file, Kind::Number, u32::from(number.cast_unsigned()))?;
     }
     Ok(())
 }
@@ -55,7 +47,7 @@ pub(super) fn job(heap: Global) -> Result<Vec<u8>, AllocError> {
     let width_height_far = [12, 6, 60];
     let guard = [0];
     let shift = [1, 1, 0];
-    word(&mut file, JOB)?;
+    bare(&mut file, Kind::Job)?;
     numbers(&mut file, &origin)?;
     numbers(&mut file, &rows)?;
     numbers(&mut file, &width_height_far)?;
@@ -68,31 +60,35 @@ pub(super) fn job(heap: Global) -> Result<Vec<u8>, AllocError> {
 
 /// A strap clamp: a box that comes in from the left, over the stock's edge.
 fn strap(file: &mut Vec<u8>) -> Result<(), AllocError> {
-    word(file, BLOCK)?;
+    bare(file, Kind::Block)?;
     numbers(file, &[0, 1, 16])?;
     numbers(file, &[3, 2, 18])
 }
 
 /// A ball clamp, over the stock's right side.
 fn ball(file: &mut Vec<u8>) -> Result<(), AllocError> {
-    word(file, BALL)?;
+    bare(file, Kind::Ball)?;
     numbers(file, &[9, 3, 16, 2])
 }
 
 /// The strap and the ball, united.
 pub(super) fn both_clamps(heap: Global) -> Result<Vec<u8>, AllocError> {
     let mut file = Vec::new(heap);
-    word(&mut file, SCENE + BLOCK_WORDS + BALL_WORDS + UNITE_WORDS)?;
+    word(
+        &mut file,
+        Kind::Scene,
+        BLOCK_WORDS + BALL_WORDS + UNITE_WORDS,
+    )?;
     strap(&mut file)?;
     ball(&mut file)?;
-    word(&mut file, UNITE)?;
+    bare(&mut file, Kind::Unite)?;
     Ok(file)
 }
 
 /// The strap alone.
 pub(super) fn strap_alone(heap: Global) -> Result<Vec<u8>, AllocError> {
     let mut file = Vec::new(heap);
-    word(&mut file, SCENE + BLOCK_WORDS)?;
+    word(&mut file, Kind::Scene, BLOCK_WORDS)?;
     strap(&mut file)?;
     Ok(file)
 }
@@ -100,7 +96,7 @@ pub(super) fn strap_alone(heap: Global) -> Result<Vec<u8>, AllocError> {
 /// Stock with a pocket in the middle and a burr beside it.
 pub(super) fn stock(heap: Global) -> Result<Vec<u8>, AllocError> {
     let mut file = Vec::new(heap);
-    word(&mut file, SURFACE + STOCK_WIDTH + STOCK_DEPTH)?;
+    word(&mut file, Kind::Surface, STOCK_WIDTH + STOCK_DEPTH)?;
     numbers(&mut file, &[12, 12, 12, 12, 12, 12, 12, 12, 12, 12])?;
     numbers(&mut file, &[12, 12, 12, 6, 5, 5, 6, 12, 12, 12])?;
     numbers(&mut file, &[12, 12, 12, 6, 5, 5, 6, 12, 14, 13])?;

@@ -2,19 +2,14 @@
 use anyhow::anyhow;
 use std::alloc::{AllocError, Global};
 use std::fmt;
-
-/// A word's kind, in bits 31..28.
-const IMAGE: u32 = 10;
-
-const HIT: u32 = 11;
-
-const REFUSAL: u32 = 14;
+use words::kind::Kind;
 
 /// How many words are printed in a line.
 const LINE: usize = 10;
 
-fn kind(word: u32) -> u32 {
-    word >> 28
+/// A word's kind, in bits 31..28.
+fn kind(word: u32) -> Option<Kind> {
+    Kind::try_from(word >> 28).ok()
 }
 
 /// Bits 27..16 of a word: the width of a picture, the depth of a hit.
@@ -41,20 +36,17 @@ impl fmt::Display for Depth {
 }
 
 fn depth_of(pixel: u32) -> Depth {
-    if kind(pixel) == HIT {
-        Depth(Some(upper(pixel)))
-    } else {
-        Depth(None)
+    match kind(pixel) {
+        Some(Kind::Hit) => Depth(Some(upper(pixel))),
+        _ => Depth(None),
     }
 }
 
 /// Four bytes a word, least significant first.
-pub(super) fn words(heap: Global, bytes: &[u8]) -> Result<Vec<u32>, AllocError> {
+pub(super) fn words_of(heap: Global, bytes: &[u8]) -> Result<Vec<u32>, AllocError> {
     let mut words = Vec::new(heap);
-    for four in bytes.chunks_exact(4) {
-        if let [a, b, c, d] = four {
-            words.push(u32::from_le_bytes([*a, *b, *c, *d]))?;
-        }
+    for four in bytes.as_chunks::<4>().0 {
+        words.push(u32::from_le_bytes(*four))?;
     }
     Ok(words)
 }
@@ -101,10 +93,10 @@ fn tell_refusal(rt: &HostRuntime, word: u32) -> anyhow::Result<()> {
 /// What an answer's words say.
 pub(super) fn tell_answer(rt: &HostRuntime, words: &[u32]) -> anyhow::Result<()> {
     match words {
-        [start, far, pixels @ ..] if kind(*start) == IMAGE => {
+        [start, far, pixels @ ..] if kind(*start) == Some(Kind::Image) => {
             tell_picture(rt, *start, *far, pixels)
         }
-        [word] if kind(*word) == REFUSAL => tell_refusal(rt, *word),
+        [word] if kind(*word) == Some(Kind::Refusal) => tell_refusal(rt, *word),
         _ => Err(anyhow!("the answer is neither a picture nor a refusal")),
     }
 }

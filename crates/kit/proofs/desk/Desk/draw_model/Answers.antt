@@ -1,4 +1,4 @@
-use Rattle.std.proofs.Common.{◌≡◌, ℕ, Bool, List, is_ok, IfOk, Ok, Err, Result, sym, ap, ◌∙◌}
+use Rattle.std.proofs.Common.{◌≡◌, ℕ, Bool, List, IfOk, Ok, Err, Result, sym, ap, ◌∙◌}
 use mathlib.Core.Path.{subst⁻¹}
 use Rattle.lattice.specs.declared.Point.{Point}
 use Rattle.solid.specs.Body.{Body}
@@ -11,9 +11,9 @@ use Rattle.kit.specs.Models.{members}
 use Rattle.kit.specs.Render.{plain_of}
 use Rattle.kit.specs.Laws.{Shows}
 use Rattle.kit.specs.Steps.{model_of, over}
-use Rattle.kit.proofs.Stacks.{ok_mapped}
 use Rattle.kit.proofs.Heaps.{model_piled, sheet_stands, sides, heap_is, unguarded, on_guard, must_be_exact}
-use Rattle.kit.proofs.draw_model.Goals as goal
+use Rattle.kit.proofs.Wholes.{over_whole}
+use Rattle.kit.proofs.desk.Desk.draw_model.Goals as goal
 
 -- what is shown of every set that the pile's members are, is shown of those that are
 shown_so : (r : Result ℕ InputFault) (b c : Body) (n : ViewNumbers) (M : Point → Bool) (text : List ℕ) → b ≡ c → Piled M c
@@ -21,25 +21,25 @@ shown_so : (r : Result ℕ InputFault) (b c : Body) (n : ViewNumbers) (M : Point
 shown_so (Ok k) b c n M text e p f = f M (subst⁻¹ (Piled M) e p)
 shown_so (Err d) b c n M text e p f = tt
 
-pub unwrap-sheet-requires : goal.unwrap-sheet-requires
-unwrap-sheet-requires c = sym (ok_mapped _ _ c.check.result) ∙ ap is_ok (c.check.ensures ∙ sheet_stands c.args.size.width c.args.size.depth _ c.requires.sides c.requires.heights)
-
 pub returns-then-job-eq0 : goal.returns-then-job-eq0
 returns-then-job-eq0 c =
     let j = c.args.job.now in
     let s = scene_body c.args.scene.now in
     let size = c.args.size in
     let hs = c.args.heights.now in
+    let m = model_of (job_numbers j) s size hs in
+    let may = sym c.may_be_guarded.ensures ∙ c.if-not-may_be_guarded.false in
     let is = heap_is j s s size hs c.new-surface.result.heights.now c.unwrap-sheet.result c.new-surface.result.sheet c.requires.heights
     (sides c.check.result c.unwrap-sheet.result size.width size.depth c.unwrap-sheet.ensures (c.check.ensures ∙ sheet_stands size.width size.depth _ c.requires.sides c.requires.heights))
     c.new-surface.ensures.sheet c.new-surface.ensures.heights (unguarded j.guard s c.if-job-eq0.true) in
     record {
-      value = c.pile_up.ensures.value ∙ ap (λ (b : Body). over b j.view c.args.records.now c.args.out.now) is;
-      shows = shown_so c.pile_up.result _ _ j.view (members (model_of (job_numbers j) s size hs)) c.pile_up.new.out is (model_piled j s size hs (scene_lawful c.args.scene.now) c.requires.exact) c.pile_up.ensures.shows;
+      value = c.pile_up.ensures.value ∙ ap (λ (b : Body). over b j.view c.args.self.now.records.now c.args.self.now.out.now) is ∙ over_whole m c.args.self.now.records.now c.args.self.now.out.now may;
+      shows = shown_so c.pile_up.result _ _ j.view (members m) c.pile_up.new.self.out.now is (model_piled j s size hs (scene_lawful c.args.scene.now) may) c.pile_up.ensures.shows;
+      lender = c.pile_up.ensures.lender;
     }
 
 pub thickened-thick-requires : goal.thickened-thick-requires
-thickened-thick-requires c = record { exact = must_be_exact c.args.job.now.guard _ c.requires.exact c.if-job-eq0.false; slight = c.args.job.now.slight }
+thickened-thick-requires c = record { exact = must_be_exact c.args.job.now.guard _ (sym c.may_be_guarded.ensures ∙ c.if-not-may_be_guarded.false) c.if-job-eq0.false; slight = c.args.job.now.slight }
 
 pub returns : goal.returns
 returns c =
@@ -47,10 +47,13 @@ returns c =
     let s = scene_body c.args.scene.now in
     let size = c.args.size in
     let hs = c.args.heights.now in
+    let m = model_of (job_numbers j) s size hs in
+    let may = sym c.may_be_guarded.ensures ∙ c.if-not-may_be_guarded.false in
     let is = heap_is j s _ size hs c.new-surface.result.heights.now c.unwrap-sheet.result c.new-surface.result.sheet c.requires.heights
     (sides c.check.result c.unwrap-sheet.result size.width size.depth c.unwrap-sheet.ensures (c.check.ensures ∙ sheet_stands size.width size.depth _ c.requires.sides c.requires.heights))
     c.new-surface.ensures.sheet c.new-surface.ensures.heights (c.thickened-thick.ensures ∙ on_guard j.guard s c.if-job-eq0.false) in
     record {
-      value = c.pile_up-2.ensures.value ∙ ap (λ (b : Body). over b j.view c.args.records.now c.args.out.now) is;
-      shows = shown_so c.pile_up-2.result _ _ j.view (members (model_of (job_numbers j) s size hs)) c.pile_up-2.new.out is (model_piled j s size hs (scene_lawful c.args.scene.now) c.requires.exact) c.pile_up-2.ensures.shows;
+      value = c.pile_up-2.ensures.value ∙ ap (λ (b : Body). over b j.view c.args.self.now.records.now c.args.self.now.out.now) is ∙ over_whole m c.args.self.now.records.now c.args.self.now.out.now may;
+      shows = shown_so c.pile_up-2.result _ _ j.view (members m) c.pile_up-2.new.self.out.now is (model_piled j s size hs (scene_lawful c.args.scene.now) may) c.pile_up-2.ensures.shows;
+      lender = c.pile_up-2.ensures.lender;
     }
