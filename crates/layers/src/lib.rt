@@ -53,13 +53,13 @@ impl From<OutOfRange> for LayerFault {
 }
 
 /// The largest part that an offset may have, in size.
-const OFFSET_MOST: i32 = 16_383;
+pub const OFFSET_MOST: i32 = 16_383;
 
 /// The least distance to thicken by.
-const THICKEN_LEAST: i32 = 0;
+pub const THICKEN_LEAST: i32 = 0;
 
 /// The largest distance to thicken by.
-const THICKEN_MOST: i32 = 1023;
+pub const THICKEN_MOST: i32 = 1023;
 
 /// The least bound that a cap may set.
 const CAP_LEAST: i32 = 1;

@@ -22,9 +22,10 @@ pub struct Ball {
     ghost small: { radius ≤ 16383 },
 }
 
-const LEAST_RADIUS: i32 = 0;
+/// The range of a radius.
+pub const LEAST_RADIUS: i32 = 0;
 
-const MOST_RADIUS: i32 = 16_383;
+pub const MOST_RADIUS: i32 = 16_383;
 
 /// Where a ball's numbers stand among those of its making.
 const CENTRE_PLACE: u32 = 1;

@@ -69,9 +69,9 @@ impl Refusal for SurfaceFault {
 }
 
 /// The range of the coordinates of centres and corners.
-const LEAST_COORDINATE: i32 = -16_384;
+pub const LEAST_COORDINATE: i32 = -16_384;
 
-const MOST_COORDINATE: i32 = 16_383;
+pub const MOST_COORDINATE: i32 = 16_383;
 
 /// Checks the three numbers of a point, the first of which stands at the place `first`.
 #[tactic(auto, unfolding(crate::specs::Made::point_ranged, crate::specs::Made::ranged))]

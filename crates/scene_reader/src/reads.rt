@@ -10,6 +10,9 @@ ghost use Rattle.scene_reader.specs.ScenesBack.{ScenesReadBack};
 
 use super::fault::SceneFault;
 use super::kind::Kind;
+use layers::{OFFSET_MOST, THICKEN_LEAST, THICKEN_MOST};
+use leaves::ball::{LEAST_RADIUS, MOST_RADIUS};
+use leaves::fault::{LEAST_COORDINATE, MOST_COORDINATE};
 use scene::Scene;
 use scene::draft::{Draft, DraftFault};
 use words::fault::WordFault;
@@ -20,16 +23,6 @@ use words::reader::Reader;
 const LEAST_WORDS: u32 = 1;
 
 const MOST_WORDS: u32 = 1792;
-/// The range of centres and corners.
-const LEAST_COORDINATE: i32 = -16_384;
-
-const MOST_COORDINATE: i32 = 16_383;
-/// The most that a radius, a part of an offset and a thickness have, in size.
-const MOST_RADIUS: i32 = 16_383;
-
-const MOST_OFFSET: i32 = 16_383;
-
-const MOST_THICKNESS: i32 = 1023;
 
 /// The fault of the node at a place.
 fn at<T>(place: usize, answer: Result<T, DraftFault>) -> Result<T, SceneFault>
@@ -78,7 +71,7 @@ fn lay(from: &mut Reader<'_>, draft: &mut Draft, node: usize, kind: Kind) -> Res
     match kind {
         Kind::Ball => {
             let centre = from.point(LEAST_COORDINATE, MOST_COORDINATE)?;
-            let radius = from.number_in(0, MOST_RADIUS)?;
+            let radius = from.number_in(LEAST_RADIUS, MOST_RADIUS)?;
             at(node, draft.ball(centre, radius))
         }
         Kind::Block => {
@@ -89,11 +82,11 @@ fn lay(from: &mut Reader<'_>, draft: &mut Draft, node: usize, kind: Kind) -> Res
         Kind::Unite => at(node, draft.unite()),
         Kind::Meet => at(node, draft.meet()),
         Kind::Shift => {
-            let by = from.point(-MOST_OFFSET, MOST_OFFSET)?;
+            let by = from.point(-OFFSET_MOST, OFFSET_MOST)?;
             at(node, draft.shift(by))
         }
         Kind::Thicken => {
-            let by = from.number_in(0, MOST_THICKNESS)?;
+            let by = from.number_in(THICKEN_LEAST, THICKEN_MOST)?;
             at(node, draft.thicken(by))
         }
     }

@@ -25,12 +25,10 @@ use march::view::ViewNumbers;
 use plate::Plate;
 use readers::job::Job;
 use readers::surface::SurfaceSize;
+use readers::surface::reads::MOST_HEIGHTS;
 use scene::Scene;
 use scene::exact::ExactScene;
 use solid::Solid;
-
-/// The most heights that a surface has.
-const MOST_HEIGHTS: usize = 4096;
 
 /// No stride is above this.
 const LONGEST_STRIDE: i32 = 64;
@@ -128,8 +126,7 @@ impl Desk<'_> {
         let mut scene = Scene::new();
         let mut heights = [0; MOST_HEIGHTS];
         let (job, size) = read_parts(input, &mut scene, &mut heights)?;
-        let columns = (size.width * size.depth) as usize;
-        self.draw_model(&job, &scene, size, &heights[..columns])
+        self.draw_model(&job, &scene, size, &heights[..size.columns()])
     }
 
     /// Writes one word in front of the bytes. How many bytes it has.

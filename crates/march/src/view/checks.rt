@@ -9,14 +9,14 @@ use lattice::direction::Direction;
 use refusal::range::in_range;
 
 /// The parts of an origin.
-const LEAST_PART: i32 = -16384;
+pub const LEAST_PART: i32 = -16384;
 
-const MOST_PART: i32 = 16383;
+pub const MOST_PART: i32 = 16383;
 
 /// The sides of a picture, in pixels, and how far its rays go.
-const MOST_PIXELS: i32 = 64;
+pub const MOST_PIXELS: i32 = 64;
 
-const MOST_FAR: i32 = 4095;
+pub const MOST_FAR: i32 = 4095;
 
 /// What is counted, and so is not below 0.
 #[tactic(auto, unfolding(crate::specs::Checks::count_answer, crate::specs::Checks::range_answer))]

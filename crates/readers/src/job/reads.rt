@@ -7,23 +7,13 @@ ghost use Rattle.readers.specs.JobsBack.{JobsReadBack};
 
 use super::{Job, JobFault};
 use geometry::ordered;
+use layers::{OFFSET_MOST, THICKEN_LEAST, THICKEN_MOST};
+use leaves::fault::{LEAST_COORDINATE, MOST_COORDINATE};
 use march::view::ViewNumbers;
+use march::view::checks::{LEAST_PART, MOST_FAR, MOST_PART, MOST_PIXELS};
 use words::fault::WordFault;
 use words::kind::Kind;
 use words::reader::Reader;
-
-/// The range of origins and corners.
-const LEAST_COORDINATE: i32 = -16_384;
-
-const MOST_COORDINATE: i32 = 16_383;
-/// The most that a part of an offset has, in size.
-const MOST_OFFSET: i32 = 16_383;
-/// The sides of a picture, in pixels, how far its rays go, and how far a scene is thickened.
-const MOST_PIXELS: i32 = 64;
-
-const MOST_FAR: i32 = 4095;
-
-const MOST_GUARD: i32 = 1023;
 
 /// Reads the numbers of the view.
 #[tactic(auto, unfolding(crate::specs::Jobs::view_at, crate::specs::Jobs::rows_at, crate::specs::Jobs::sizes_at))]
@@ -34,7 +24,7 @@ fn view(from: &mut Reader<'_>) -> Result<ViewNumbers, WordFault>
 {
     let mut ahead = *from;
     let view = ViewNumbers {
-        origin: ahead.point(LEAST_COORDINATE, MOST_COORDINATE)?,
+        origin: ahead.point(LEAST_PART, MOST_PART)?,
         ray: ahead.row()?,
         across: ahead.row()?,
         down: ahead.row()?,
@@ -59,8 +49,8 @@ pub fn read_job(from: &mut Reader<'_>) -> Result<Job, JobFault>
     ahead.next_part();
     ahead.bare_of(Kind::Job)?;
     let view = view(&mut ahead)?;
-    let guard = ahead.number_in(0, MOST_GUARD)?;
-    let shift = ahead.point(-MOST_OFFSET, MOST_OFFSET)?;
+    let guard = ahead.number_in(THICKEN_LEAST, THICKEN_MOST)?;
+    let shift = ahead.point(-OFFSET_MOST, OFFSET_MOST)?;
     let lo = ahead.point(LEAST_COORDINATE, MOST_COORDINATE)?;
     let hi = ahead.point(LEAST_COORDINATE, MOST_COORDINATE)?;
     if !ordered(lo, hi) {

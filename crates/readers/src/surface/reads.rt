@@ -16,7 +16,7 @@ const DEPTHS: u32 = 0x1_0000;
 /// The most columns on a side, and in all.
 const MOST_COLUMNS: u32 = 64;
 
-const MOST_HEIGHTS: usize = 4096;
+pub const MOST_HEIGHTS: usize = 4096;
 
 fn is_side(n: u32) -> bool
     ensures { result ≡ side n }
