@@ -3,7 +3,8 @@ use refusal::Refusal;
 use std::alloc::{AllocError, Global};
 use words::kind::Kind;
 
-/// What is read, or the number and the place of its refusal.
+/// What is read, or the number and the place of its refusal. Each part is told by a `told` of its
+/// own: one over a closure would need a `requires` and be no shorter.
 pub(crate) type Answer<T> = Result<T, (u32, u32)>;
 
 /// The number and the place of a fault.

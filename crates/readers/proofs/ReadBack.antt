@@ -30,9 +30,6 @@ ranged : (lo hi n : ℤ) (k : ℕ) → is_ok (range_answer lo hi n k) ≡ true �
 unfolding range_answer
 ranged lo hi n k h = picked (in_range lo hi n) n (Range k) h
 
-ok_from : {A : Type 0} {x : A} (r : Result A ViewFault) → r ≡ Ok x → is_ok r ≡ true
-ok_from r h = ap is_ok h
-
 counted : (lo hi n : ℤ) (k : ℕ) → is_ok (count_answer lo hi n k) ≡ true → in_range lo hi n ≡ true
 unfolding count_answer
 counted lo hi n k h = ranged lo hi n k (ap is_ok (linked (range_answer lo hi n k) _ h).1.0)

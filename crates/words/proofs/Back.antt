@@ -1,6 +1,6 @@
 -- What is written is read back.
-use Rattle.std.proofs.Common.{◌≡◌, ℕ, zero, suc, ◌+◌, ◌-◌, ◌*◌, ◌/◌, ◌%◌, ◌<◌, ◌≤◌, true, ltb, leb, List, [], ◌∷◌, ◌++◌, length, get_or, ℤ, pos, negsuc, Ok, ap, ◌∙◌, mod-eq_of_lt, div-add-mod', arith}
-use native.Mathlib.Nat.{div-div-eq-div-mul}
+use Rattle.std.proofs.Common.{◌≡◌, ℕ, zero, suc, ◌+◌, ◌-◌, ◌*◌, ◌/◌, ◌%◌, ◌<◌, ◌≤◌, true, ltb, leb, List, [], ◌∷◌, ◌++◌, length, get_or, ℤ, pos, negsuc, Ok, ap, ◌∙◌, arith}
+use Rattle.std.proofs.lemmas.Nat.{from_le_bytes-to_le_bytes_4}
 use Rattle.std.proofs.lemmas.Int.{ints}
 use Rattle.std.proofs.lemmas.Bool.Decides.{nat_tests}
 use Rattle.lattice.specs.declared.Point.{Point}
@@ -12,23 +12,13 @@ use Rattle.words.specs.Encoding.{bytes_of, signed_word, NumbersReadBack}
 at_four : (a b c d : ℕ) (bs : List ℕ) (k i : ℕ) → get_or (a ∷ b ∷ c ∷ d ∷ bs) (4 * suc k + i) 0 ≡ get_or bs (4 * k + i) 0
 at_four a b c d bs k i = ap (λ m. get_or (a ∷ b ∷ c ∷ d ∷ bs) m 0) (let e : 4 * suc k + i ≡ suc (suc (suc (suc (4 * k + i)))) = omega arith in e)
 
-added : (w q₁ q₂ q₃ r₀ r₁ r₂ : ℕ) → q₁ * 256 + r₀ ≡ w → q₂ * 256 + r₁ ≡ q₁ → q₃ * 256 + r₂ ≡ q₂ → r₀ + r₁ * 256 + r₂ * 65536 + q₃ * 16777216 ≡ w
-added w q₁ q₂ q₃ r₀ r₁ r₂ a b c = omega arith
-
-digits : (w : ℕ) → w < 4294967296 → w % 256 + w / 256 % 256 * 256 + w / 65536 % 256 * 65536 + w / 16777216 % 256 * 16777216 ≡ w
-digits w h =
-    let p : w / 65536 * 256 + w / 256 % 256 ≡ w / 256 = rw div-div-eq-div-mul at (div-add-mod' (w / 256) 256) in
-    let q : w / 16777216 * 256 + w / 65536 % 256 ≡ w / 65536 = rw div-div-eq-div-mul at (div-add-mod' (w / 65536) 256) in
-    let l : w / 16777216 % 256 ≡ w / 16777216 = mod-eq_of_lt (let m : w / 16777216 < 256 = omega arith in m) in
-    rw l (added w (w / 256) (w / 65536) (w / 16777216) (w % 256) (w / 256 % 256) (w / 65536 % 256) (div-add-mod' w 256) p q)
-
 -- the four bytes of the word at k
 abbrev sum_at : List ℕ → ℕ → ℕ
 sum_at bs k = get_or bs (4 * k) 0 + get_or bs (4 * k + 1) 0 * 256 + get_or bs (4 * k + 2) 0 * 65536 + get_or bs (4 * k + 3) 0 * 16777216
 
 sum_back : (ws rest : List ℕ) (k : ℕ) → k < length ws → get_or ws k 0 < 4294967296 → sum_at (bytes_of ws ++ rest) k ≡ get_or ws k 0
 sum_back [] rest k h l = absurd (omega arith)
-sum_back (w ∷ ws) rest zero h l = digits w l
+sum_back (w ∷ ws) rest zero h l = from_le_bytes-to_le_bytes_4 w l
 sum_back (w ∷ ws) rest (suc k) h l = simp (at_four₀, at_four) (sum_back ws rest k (omega arith) l)
   where
     at_four₀ : (a b c d : ℕ) (bs : List ℕ) (k : ℕ) → get_or (a ∷ b ∷ c ∷ d ∷ bs) (4 * suc k) 0 ≡ get_or bs (4 * k) 0

@@ -1,11 +1,8 @@
 -- What is read lies in its range.
-use Rattle.std.proofs.Common.{◌≡◌, ℕ, ◌+◌, true, ltb, List, ℤ, pos, negsuc, Ok, subst, arith}
-use Rattle.std.proofs.lemmas.Int.{ints}
-use Rattle.std.proofs.lemmas.Bool.Decides.{nat_tests}
+use Rattle.std.proofs.Common.{◌≡◌, ℕ, ◌+◌, true, List, ℤ, Ok, subst}
 use Rattle.lattice.specs.declared.Point.{Point}
-use Rattle.words.specs.declared.fault.WordFault.TheVariants.{Unnamed, Range, Row}
-use Rattle.words.specs.Words.{signed}
-use Rattle.words.specs.Reading.{in_range, is_row, kind_at, number_at, number_in, row_at, point_at, point_in}
+use Rattle.words.specs.declared.fault.WordFault.TheVariants.{Range, Row}
+use Rattle.words.specs.Reading.{in_range, is_row, number_at, number_in, row_at, point_at, point_in}
 use Rattle.words.proofs.Chains.{first_ok, test_held, same_ok}
 
 module _ (bs : List ℕ) (k : ℕ) where
@@ -22,17 +19,6 @@ module _ (bs : List ℕ) (k : ℕ) where
       let p = first_ok (number_at bs k) _ n h in
       let q = test_held (is_row p.0) (Row k) (Ok p.0) n p.1.1 in
       subst (λ m. is_row m ≡ true) (same_ok _ _ q.1) q.0
-
-  -- a number has 16 bits
-  pub number_16 : (n : ℤ) → number_at bs k ≡ Ok n → in_range (negsuc 32767) (pos 32767) n ≡ true
-  unfolding number_at
-  number_16 n h =
-      let p = first_ok (kind_at bs k 2 2) _ n h in
-      let q = test_held (ltb p.0.1 65536) (Unnamed k) (Ok (signed p.0.1)) n p.1.1 in
-      subst (λ m. in_range (negsuc 32767) (pos 32767) m ≡ true) (same_ok _ _ q.1) (small p.0.1 q.0)
-    where
-      small : (m : ℕ) → ltb m 65536 ≡ true → in_range (negsuc 32767) (pos 32767) (signed m) ≡ true
-      small m l = grind (arith, ints, nat_tests)
 
 pub point_in_range : (bs : List ℕ) (k : ℕ) (lo hi : ℤ) (p : Point) → point_at bs k lo hi ≡ Ok p → point_in lo hi p ≡ true
 unfolding point_at
