@@ -1,7 +1,6 @@
 //! Files made of words, and what is told of them.
 use refusal::Refusal;
 use std::alloc::{AllocError, Global};
-use words::kind::Kind;
 
 /// What is read, or the number and the place of its refusal. Each part is told by a `told` of its
 /// own: one over a closure would need a `requires` and be no shorter.
@@ -12,9 +11,9 @@ pub(crate) fn number_and_place<F: Refusal>(fault: &F) -> (u32, u32) {
     (fault.number(), fault.place())
 }
 
-/// A number word.
+/// A number word: its kind stands in bits 31..28.
 pub(crate) fn number(n: i16) -> u32 {
-    Kind::Number.word(u32::from(n.cast_unsigned()))
+    0x2000_0000 | u32::from(n.cast_unsigned())
 }
 
 /// The words, the one at `place` in place of its own.

@@ -14,6 +14,7 @@ use solid::Solid;
 pub const MOST_NODES: usize = 256;
 
 /// Nodes in the order in which they were laid down, each of which found what it takes.
+// They stand in a row, each after those that it takes: a tree of boxes takes heap, and this takes none.
 #[derive(Clone, Copy)]
 pub struct Table {
     nodes: Stack<Node, MOST_NODES>,

@@ -145,6 +145,7 @@ fn count(from: &mut Reader<'_>) -> Result<usize, SceneFault>
 /// Reads a scene, which begins at the word that is due, into a place that the caller holds. A
 /// refused one leaves the reader and the caller's scene as they were. Every scene is read back from
 /// its words.
+// It reads by a copy of the reader, so that a refused scene leaves the caller's where it was.
 pub fn read_scene(from: &mut Reader<'_>, scene: &mut Scene) -> Result<(), SceneFault>
     ensures value { (result, scene_body scene.new) ≡ put_scene (scene_body scene.old) (scene_of (ahead from.old)) }
     ensures read { MatchResult (scene_of (ahead from.old)) (λ x. Begun (1 + x.0) from.old from.new) (λ _. from.new ≡ from.old) }
