@@ -1,9 +1,9 @@
 //! A stack in a room of fixed size.
-ghost use Rattle.std.specs.Prelude.{◌≡◌, ◌+◌, ◌<◌, ◌≤◌, min, length, take, slice_set};
+ghost use Rattle.std.specs.Prelude.{◌≡◌, ◌+◌, ◌<◌, ◌≤◌, length, take, slice_set};
 
 /// Items one on another, the last on top: the first `height` of a row of `N`. An
 /// `arrayvec::ArrayVec` is no `Copy`, and its `clone` may fail; a scene is copied, and its filling
-/// finds memory always.
+/// always finds memory.
 #[derive(Clone, Copy, Drop)]
 pub struct Stack<T, const N: usize> {
     pub(crate) items: [T; N],

@@ -4,7 +4,7 @@ ghost use Rattle.words.specs.Cursor.{text, place, ahead, Moved, Begun};
 ghost use Rattle.words.specs.Reading.{and_then, held};
 ghost use Rattle.scene.specs.Scenes.{scene_body};
 ghost use Rattle.scene.specs.States.{state};
-ghost use Rattle.scene_reader.specs.Scenes.{at, sure, checked, laid, node_at, ended, nodes_from, count_of, scene_of, put_scene};
+ghost use Rattle.scene_reader.specs.Scenes.{at, sure, checked, node_at, ended, nodes_from, count_of, scene_of, put_scene};
 ghost use Rattle.scene_reader.specs.Down.{Down};
 ghost use Rattle.scene_reader.specs.ScenesBack.{ScenesReadBack};
 
