@@ -9,8 +9,9 @@ ghost use Rattle.leaves.specs.Made.{box_made};
 use super::LEAF_REACH;
 use super::axis::beside;
 use super::fault::{LeafFault, check_point};
+use geometry::ordered;
 use lattice::Point;
-use solid::{Exact, QuestionFault, Solid};
+use solid::{Exact, QuestionFault, Solid, check_asked};
 
 /// The points that lie from `lo` to `hi` on each axis.
 #[derive(Clone, Copy)]
@@ -26,13 +27,6 @@ pub struct AxisBox {
 const LO_PLACE: u32 = 1;
 
 const HI_PLACE: u32 = 4;
-
-/// Is `lo` above `hi` on no axis?
-fn ordered(lo: Point, hi: Point) -> bool
-    ensures { result ≡ ordered lo hi }
-{
-    lo.x <= hi.x && lo.y <= hi.y && lo.z <= hi.z
-}
 
 impl AxisBox {
     /// The box of those corners. Their coordinates, numbers 1 to 3 and 4 to 6, lie in
@@ -59,9 +53,7 @@ impl Solid for AxisBox {
     }
 
     fn clearance(&self, p: Point) -> Result<u32, QuestionFault> {
-        if !p.within(LEAF_REACH) {
-            return Err(QuestionFault::BeyondReach);
-        }
+        check_asked(LEAF_REACH, p)?;
         let x = beside(self.lo.x, self.hi.x, p.x);
         let y = beside(self.lo.y, self.hi.y, p.y);
         let z = beside(self.lo.z, self.hi.z, p.z);

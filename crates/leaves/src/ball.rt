@@ -1,16 +1,17 @@
 //! The ball.
-ghost use Rattle.std.specs.Prelude.{◌≡◌, ℕ, ◌*◌, ◌≤◌, max, true};
+ghost use Rattle.std.specs.Prelude.{◌≡◌, ℕ, ◌+◌, ◌-◌, ◌*◌, ◌≤◌, max};
 ghost use Rattle.std.specs.Result.{result_map_both};
-ghost use Rattle.lattice.specs.Space.{In};
+ghost use Rattle.lattice.specs.Space.{In, gap};
 ghost use Rattle.geometry.specs.Leaves.{least, fits, ball};
 ghost use Rattle.geometry.specs.Stands.{SmallestStands};
 ghost use Rattle.geometry.proofs.Balls.{ball_lawful};
 ghost use Rattle.leaves.specs.Made.{ball_made};
 
 use super::LEAF_REACH;
-use super::fault::{LeafFault, check_point, check_range};
+use super::fault::{LeafFault, check_point};
 use lattice::Point;
-use solid::{Exact, QuestionFault, Solid};
+use refusal::range::in_range;
+use solid::{Exact, QuestionFault, Solid, check_asked};
 
 /// The points whose squared offsets from the centre add to at most the radius squared.
 #[derive(Clone, Copy)]
@@ -38,57 +39,105 @@ impl Ball {
         ensures smallest { SmallestStands }
     {
         check_point(centre, CENTRE_PLACE)?;
-        check_range(radius, LEAST_RADIUS, MOST_RADIUS, RADIUS_PLACE)?;
+        let radius = in_range(radius, LEAST_RADIUS, MOST_RADIUS, RADIUS_PLACE)?;
         Ok(Ball {
             centre,
-            radius: radius as u32,
+            radius: radius.unsigned_abs(),
         })
     }
 }
 
-/// The square of an offset. Within the reach an offset from a centre is at most 1,064,960, the
-/// reach and 16,384 more, so that three squares and their sum fit.
+/// The square of a length.
 fn square(n: u32) -> u64
-    requires { n ≤ 1064960 }
-    ensures value { result ≡ n * n }
-    ensures small { result ≤ 1064960 * 1064960 }
+    ensures { result ≡ n * n }
 {
     n as u64 * n as u64
 }
 
-/// Do the squares of the three, each `k` less but not below 0, add to at most that of the radius?
-fn fits(radius: u32, a: u32, b: u32, c: u32, k: u32) -> bool
-    requires { (radius ≤ 16383) × (a ≤ 1064960) × (b ≤ 1064960) × (c ≤ 1064960) }
-    ensures { result ≡ fits radius a b c k }
-{
-    let x = square(a.saturating_sub(k));
-    let y = square(b.saturating_sub(k));
-    let z = square(c.saturating_sub(k));
-    x + y + z <= square(radius)
+/// How far a point lies from a centre on each axis. Within the reach that is at most 1,064,960, the
+/// reach and 16,384 more, so that the three squares and their sum fit.
+#[derive(Clone, Copy)]
+struct Offsets {
+    x: u32,
+    y: u32,
+    z: u32,
+    ghost bounded: { (x ≤ 1064960) × (y ≤ 1064960) × (z ≤ 1064960) },
 }
 
-/// The smallest `k` that fits. A `k` that leaves the greatest offset above the radius does not, and
-/// one that leaves it at half the radius does, so it is sought between those two; the first of them
-/// often is the answer, as at every member and wherever one offset outweighs the others.
-fn smallest(radius: u32, a: u32, b: u32, c: u32) -> u32
-    requires { (radius ≤ 16383) × (a ≤ 1064960) × (b ≤ 1064960) × (c ≤ 1064960) }
-    ensures { result ≡ least (max a (max b c)) (fits radius a b c) }
-{
-    let greatest = a.max(b.max(c));
-    let mut low = greatest.saturating_sub(radius);
-    if fits(radius, a, b, c, low) {
-        return low;
+impl Offsets {
+    /// The greatest of them.
+    fn greatest(self) -> u32
+        ensures { result ≡ max self.x (max self.y self.z) }
+    {
+        self.x.max(self.y.max(self.z))
     }
-    let mut high = greatest.saturating_sub(radius / 2);
-    while low < high {
-        let mid = low + (high - low) / 2;
-        if fits(radius, a, b, c, mid) {
-            high = mid;
-        } else {
-            low = mid + 1;
+
+    /// Each of them `k` less, but not below 0.
+    fn less(self, k: u32) -> Offsets
+        ensures x { result.x ≡ self.x - k }
+        ensures y { result.y ≡ self.y - k }
+        ensures z { result.z ≡ self.z - k }
+    {
+        Offsets {
+            x: self.x.saturating_sub(k),
+            y: self.y.saturating_sub(k),
+            z: self.z.saturating_sub(k),
         }
     }
-    low
+
+    /// The sum of their squares.
+    fn squared(self) -> u64
+        ensures { result ≡ self.x * self.x + self.y * self.y + self.z * self.z }
+    {
+        square(self.x) + square(self.y) + square(self.z)
+    }
+}
+
+impl Ball {
+    /// The offsets from the centre of a point within the reach.
+    fn offsets(self, p: Point) -> Offsets
+        requires { In 1048576 p }
+        ensures x { result.x ≡ gap p.x self.centre.x }
+        ensures y { result.y ≡ gap p.y self.centre.y }
+        ensures z { result.z ≡ gap p.z self.centre.z }
+    {
+        Offsets {
+            x: p.x.abs_diff(self.centre.x),
+            y: p.y.abs_diff(self.centre.y),
+            z: p.z.abs_diff(self.centre.z),
+        }
+    }
+
+    /// Do the squares of the offsets, each `k` less but not below 0, add to at most that of the
+    /// radius?
+    fn fits(self, offsets: Offsets, k: u32) -> bool
+        ensures { result ≡ fits self.radius offsets.x offsets.y offsets.z k }
+    {
+        offsets.less(k).squared() <= square(self.radius)
+    }
+
+    /// The smallest `k` that fits. A `k` that leaves the greatest offset above the radius does not,
+    /// and one that leaves it at half the radius does, so it is sought between those two; the first
+    /// of them often is the answer, as at every member and wherever one offset outweighs the others.
+    fn smallest(self, offsets: Offsets) -> u32
+        ensures { result ≡ least (max offsets.x (max offsets.y offsets.z)) (fits self.radius offsets.x offsets.y offsets.z) }
+    {
+        let greatest = offsets.greatest();
+        let mut low = greatest.saturating_sub(self.radius);
+        if self.fits(offsets, low) {
+            return low;
+        }
+        let mut high = greatest.saturating_sub(self.radius / 2);
+        while low < high {
+            let mid = low + (high - low) / 2;
+            if self.fits(offsets, mid) {
+                high = mid;
+            } else {
+                low = mid + 1;
+            }
+        }
+        low
+    }
 }
 
 impl Solid for Ball {
@@ -101,13 +150,8 @@ impl Solid for Ball {
     }
 
     fn clearance(&self, p: Point) -> Result<u32, QuestionFault> {
-        if !p.within(LEAF_REACH) {
-            return Err(QuestionFault::BeyondReach);
-        }
-        let a = p.x.abs_diff(self.centre.x);
-        let b = p.y.abs_diff(self.centre.y);
-        let c = p.z.abs_diff(self.centre.z);
-        Ok(smallest(self.radius, a, b, c))
+        check_asked(LEAF_REACH, p)?;
+        Ok(self.smallest(self.offsets(p)))
     }
 }
 

@@ -1,15 +1,16 @@
 //! The surface: columns that stand side by side on a sheet.
-ghost use Rattle.std.specs.Prelude.{◌≡◌, ◌*◌, ◌≤◌, length, slice_index_or};
+ghost use Rattle.std.specs.Prelude.{◌≡◌, ◌*◌, ◌≤◌, cond, length, slice_index_or, unsigned_abs, Ok, Err};
 ghost use Rattle.std.specs.Result.{result_map_both};
 ghost use Rattle.geometry.specs.Leaves.{last, lowest, greatest, in_column, surface};
 ghost use Rattle.geometry.proofs.Surfaces.{surface_lawful};
-ghost use Rattle.leaves.specs.Made.{sheet_made};
+ghost use Rattle.leaves.specs.declared.fault.SurfaceFault.TheVariants.{Size};
+ghost use Rattle.leaves.specs.Made.{is_side, sheet_made};
 
 use super::LEAF_REACH;
 use super::axis::{above, beside};
-use super::fault::{SurfaceFault, lies_between};
+use super::fault::SurfaceFault;
 use lattice::Point;
-use solid::{QuestionFault, Solid};
+use solid::{QuestionFault, Solid, check_asked};
 
 /// The sizes of a surface, which were checked.
 #[derive(Clone, Copy)]
@@ -25,21 +26,25 @@ const SHORTEST_SIDE: i32 = 1;
 
 const LONGEST_SIDE: i32 = 64;
 
+/// A width or a depth that lies in its range.
+fn side(n: i32) -> Result<u32, SurfaceFault>
+    ensures { result ≡ cond (is_side n) (Ok (unsigned_abs n)) (Err Size) }
+{
+    if !(SHORTEST_SIDE..=LONGEST_SIDE).contains(&n) {
+        return Err(SurfaceFault::Size);
+    }
+    Ok(n.unsigned_abs())
+}
+
 impl Sheet {
     /// Checks what a surface is to be made of: width and depth lie in 1..64, and there is a height
     /// for each column. Every 16-bit number is a height.
     pub fn check(width: i32, depth: i32, heights: &[i16]) -> Result<Sheet, SurfaceFault>
         ensures { result_map_both (λ (s : Sheet). (s.width, s.depth)) (λ e. e) result ≡ sheet_made width depth (length heights.now) }
     {
-        if !lies_between(width, SHORTEST_SIDE, LONGEST_SIDE) {
-            return Err(SurfaceFault::Size);
-        }
-        if !lies_between(depth, SHORTEST_SIDE, LONGEST_SIDE) {
-            return Err(SurfaceFault::Size);
-        }
         let sheet = Sheet {
-            width: width as u32,
-            depth: depth as u32,
+            width: side(width)?,
+            depth: side(depth)?,
         };
         if heights.len() < sheet.columns() {
             return Err(SurfaceFault::Buffer);
@@ -70,22 +75,18 @@ const LOWEST_HEIGHT: i16 = i16::MIN;
 fn height_at(heights: &[i16], column: usize) -> i16
     ensures { result ≡ slice_index_or heights.now column lowest }
 {
-    if column < heights.len() {
-        heights[column]
-    } else {
-        LOWEST_HEIGHT
-    }
+    heights.get(column).copied().unwrap_or(LOWEST_HEIGHT)
 }
 
 /// The greatest height of the first `columns`.
 fn greatest(heights: &[i16], columns: usize) -> i16
     ensures { result ≡ greatest columns heights.now }
 {
-    let mut top = LOWEST_HEIGHT;
-    for k in 0..columns {
-        top = top.max(height_at(heights, k));
-    }
-    top
+    heights
+        .iter()
+        .copied()
+        .take(columns)
+        .fold(LOWEST_HEIGHT, i16::max)
 }
 
 /// A sheet of columns, each solid from its height down without end. Its heights are the caller's,
@@ -118,10 +119,10 @@ impl<'a> Surface<'a> {
     fn in_column(&self, p: Point) -> bool
         ensures { result ≡ in_column self.now.sheet.width self.now.sheet.depth self.now.heights.now p }
     {
-        if !lies_between(p.x, 0, last(self.sheet.width)) {
+        if !(0..=last(self.sheet.width)).contains(&p.x) {
             return false;
         }
-        if !lies_between(p.y, 0, last(self.sheet.depth)) {
+        if !(0..=last(self.sheet.depth)).contains(&p.y) {
             return false;
         }
         let column = p.y as usize * self.sheet.width as usize + p.x as usize;
@@ -142,9 +143,7 @@ impl<'a> Solid for Surface<'a> {
     }
 
     fn clearance(&self, p: Point) -> Result<u32, QuestionFault> {
-        if !p.within(LEAF_REACH) {
-            return Err(QuestionFault::BeyondReach);
-        }
+        check_asked(LEAF_REACH, p)?;
         if self.in_column(p) {
             return Ok(0);
         }

@@ -1,15 +1,16 @@
-use Rattle.std.proofs.Common.{rules}
-use Rattle.leaves.specs.Made.{point_ranged}
+use Rattle.std.proofs.Common.{arith, rules}
+use Rattle.std.proofs.lemmas.Grind.{common_steps}
+use Rattle.leaves.specs.Made.{point_ranged, ranged}
 use Rattle.leaves.proofs.fault.check_point.Goals as goal
 
-pub returns-in_err-check_range : goal.returns-in_err-check_range
-unfolding point_ranged
-returns-in_err-check_range c = record { value = search rules; near = search rules }
+pub returns-in_err-in_range-3-clause-value : goal.returns-in_err-in_range-3-clause-value
+unfolding point_ranged ranged
+returns-in_err-in_range-3-clause-value c = search rules
 
-pub returns-in_err-check_range-2 : goal.returns-in_err-check_range-2
-unfolding point_ranged
-returns-in_err-check_range-2 c = record { value = search rules; near = search rules }
+pub returns-clause-value : goal.returns-clause-value
+unfolding point_ranged ranged
+returns-clause-value c = search rules
 
-pub returns : goal.returns
-unfolding point_ranged
-returns c = record { value = search rules; near = search rules }
+pub returns-clause-near : goal.returns-clause-near
+unfolding point_ranged ranged
+returns-clause-near c = λ _. grind (arith, common_steps)

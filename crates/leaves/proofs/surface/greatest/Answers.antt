@@ -1,12 +1,18 @@
-use Rattle.std.proofs.Common.{refl, rules}
-use Rattle.std.proofs.lemmas.Int.{to_z-of_z}
-use Rattle.geometry.specs.Leaves.{greatest}
-use Rattle.geometry.proofs.Surfaces.{greatest_more}
+use Rattle.std.proofs.Common.{◌≡◌, ◌∙◌, sym, ap, length, fold, take, arith, rules}
+use Rattle.std.specs.Int.{int_max}
+use Rattle.std.proofs.lemmas.Grind.{common_steps}
+use Rattle.std.proofs.lemmas.List.{same_lists}
+use Rattle.std.proofs.iter.Serving.{serving}
+use Rattle.geometry.specs.Leaves.{lowest}
+use Rattle.leaves.proofs.Greatest.{greatest_is}
 use Rattle.leaves.proofs.surface.greatest.Goals as goal
 
-pub loop-k-init : goal.loop-k-init
-unfolding greatest
-loop-k-init c = refl
-
-pub loop-k-preserved : goal.loop-k-preserved
-loop-k-preserved c = search (rules, to_z-of_z, greatest_more)
+pub returns : goal.returns
+returns c =
+    let hs = c.args.heights.now in
+    let items = c.fold.ensures.runs.0.items in
+    let long : length items ≡ length (take c.args.columns hs) = grind (serving, arith, common_steps) in
+    let same : items ≡ take c.args.columns hs = same_lists _ _ long (λ k d h. grind (serving, arith, common_steps)) in
+    let folds : c.fold.result ≡ fold int_max lowest items = grind (serving, arith, common_steps) in
+    let is = folds ∙ ap (fold int_max lowest) same ∙ sym (greatest_is c.args.columns hs) in
+    search rules

@@ -1,4 +1,4 @@
-use Rattle.std.proofs.Common.{◌≡◌, sym, arith, rules}
+use Rattle.std.proofs.Common.{◌≡◌, arith, rules}
 use Rattle.std.proofs.lemmas.Int.{to_z-of_z}
 use Rattle.geometry.specs.Leaves.{beside}
 use Rattle.geometry.proofs.Boxes.{block_asked}
@@ -12,4 +12,4 @@ returns c =
     let ex : c.beside-x.result ≡ beside lo.x hi.x p.x = search (rules, to_z-of_z) in
     let ey : c.beside-y.result ≡ beside lo.y hi.y p.y = search (rules, to_z-of_z) in
     let ez : c.beside-z.result ≡ beside lo.z hi.z p.z = search (rules, to_z-of_z) in
-    block_asked lo hi p c.max-2.result c.beside-x.result c.beside-y.result c.beside-z.result (sym c.if-not-within.ensures) ex ey ez (omega arith)
+    block_asked lo hi p c.max-2.result c.beside-x.result c.beside-y.result c.beside-z.result (search rules) ex ey ez (omega arith)
