@@ -7,12 +7,14 @@ ghost use Rattle.std.specs.Result.{result_map_both};
 ghost use Rattle.geometry.specs.Layers.{unite, meet, shift, thicken, capped};
 ghost use Rattle.geometry.specs.Stands.{NearDecides};
 ghost use Rattle.geometry.proofs.Kept.{unite_lawful, meet_lawful, shift_lawful, thicken_lawful, capped_lawful};
+ghost use Rattle.layers.specs.declared.LayerFault.TheVariants.{Range};
 ghost use Rattle.layers.specs.Told.{layer_told};
-ghost use Rattle.layers.specs.Made.{offset_checked, shift_made, ranged, thicken_number, cap_number, parts};
+ghost use Rattle.layers.specs.Made.{both_answers, offset_checked, shift_made, thicken_number, cap_number, parts};
 
 use lattice::Point;
-use refusal::Refusal;
-use solid::{Exact, QuestionFault, Solid};
+use refusal::range::{OutOfRange, in_range};
+use refusal::{Refusal, Rule};
+use solid::{Exact, QuestionFault, Solid, check_asked};
 
 /// Why the making of a layer is refused. What was to lie below is let go; a caller that wants to
 /// keep it lends it.
@@ -24,17 +26,13 @@ pub enum LayerFault {
     PastReach,
 }
 
-const OUT_OF_RANGE: u32 = 4;
-
-const PAST_REACH: u32 = 11;
-
 impl Refusal for LayerFault {
     ghost told = { layer_told };
 
     fn number(&self) -> u32 {
         match *self {
-            LayerFault::Range { place: _ } => OUT_OF_RANGE,
-            LayerFault::PastReach => PAST_REACH,
+            LayerFault::Range { place: _ } => Rule::Range.number(),
+            LayerFault::PastReach => Rule::PastReach.number(),
         }
     }
 
@@ -46,46 +44,44 @@ impl Refusal for LayerFault {
     }
 }
 
+impl From<OutOfRange> for LayerFault {
+    ghost from_gives = { λ e r. r ≡ Range e.place };
+
+    fn from(fault: OutOfRange) -> LayerFault {
+        LayerFault::Range { place: fault.place }
+    }
+}
+
 /// The largest part that an offset may have, in size.
-const OFFSET_MOST: u32 = 16_383;
+const OFFSET_MOST: i32 = 16_383;
 
 /// The least distance to thicken by.
-const THICKEN_LEAST: u32 = 0;
+const THICKEN_LEAST: i32 = 0;
 
 /// The largest distance to thicken by.
-const THICKEN_MOST: u32 = 1023;
+const THICKEN_MOST: i32 = 1023;
 
 /// The least bound that a cap may set.
-const CAP_LEAST: u32 = 1;
+const CAP_LEAST: i32 = 1;
 
 /// The largest bound that a cap may set.
-const CAP_MOST: u32 = 2_097_151;
+const CAP_MOST: i32 = 2_097_151;
 
-/// A call's first number, if it lies in `least..=most`.
-fn first_number(number: i32, least: u32, most: u32) -> Result<u32, LayerFault>
-    ensures { result ≡ ranged least most number }
-{
-    let size = number.unsigned_abs();
-    if number < 0 || size < least || size > most {
-        return Err(LayerFault::Range { place: 1 });
-    }
-    Ok(size)
-}
+/// Where a call's numbers stand. An offset has three; a distance or a bound is the first alone.
+const FIRST: u32 = 1;
+
+const SECOND: u32 = 2;
+
+const THIRD: u32 = 3;
 
 /// Checks an offset of a solid of that reach: refuses with 4 the first part outside -16383..=16383,
 /// then with 11 an offset of which a part is above the reach, in size.
 pub fn check_offset(reach: u32, by: Point) -> Result<(), LayerFault>
     ensures { result ≡ offset_checked reach by }
 {
-    if by.x.unsigned_abs() > OFFSET_MOST {
-        return Err(LayerFault::Range { place: 1 });
-    }
-    if by.y.unsigned_abs() > OFFSET_MOST {
-        return Err(LayerFault::Range { place: 2 });
-    }
-    if by.z.unsigned_abs() > OFFSET_MOST {
-        return Err(LayerFault::Range { place: 3 });
-    }
+    in_range(by.x, -OFFSET_MOST, OFFSET_MOST, FIRST)?;
+    in_range(by.y, -OFFSET_MOST, OFFSET_MOST, SECOND)?;
+    in_range(by.z, -OFFSET_MOST, OFFSET_MOST, THIRD)?;
     if by.norm() > reach {
         return Err(LayerFault::PastReach);
     }
@@ -96,7 +92,8 @@ pub fn check_offset(reach: u32, by: Point) -> Result<(), LayerFault>
 pub fn check_thickness(by: i32) -> Result<u32, LayerFault>
     ensures { result ≡ thicken_number by }
 {
-    first_number(by, THICKEN_LEAST, THICKEN_MOST)
+    let by = in_range(by, THICKEN_LEAST, THICKEN_MOST, FIRST)?;
+    Ok(by.unsigned_abs())
 }
 
 /// The reach of what stands on two solids.
@@ -105,6 +102,17 @@ fn smaller_reach<S: Solid, T: Solid>(left: &S, right: &T) -> u32
 {
     left.reach().min(right.reach())
 }
+
+/// The clearances of two solids at a point that both answer.
+fn both<S: Solid, T: Solid>(left: &S, right: &T, p: Point) -> Result<(u32, u32), QuestionFault>
+    ensures { result ≡ both_answers (S.Solid.body left.now) (T.Solid.body right.now) p }
+{
+    Ok((left.clearance(p)?, right.clearance(p)?))
+}
+
+// `Unite` and `Meet` stay two types: one type with its choice as a parameter would be no plainer,
+// since the parameter would have to bring the operation, its law and whether it is exact, which is
+// all that they are. That a thickened meet does not build rests on `Meet` having no `Exact`.
 
 /// Members of either solid. It is exact over two exact solids.
 #[derive(Drop)]
@@ -131,8 +139,7 @@ impl<S: Solid, T: Solid> Solid for Unite<S, T> {
     }
 
     fn clearance(&self, p: Point) -> Result<u32, QuestionFault> {
-        let left = self.left.clearance(p)?;
-        let right = self.right.clearance(p)?;
+        let (left, right) = both(&self.left, &self.right, p)?;
         Ok(left.min(right))
     }
 }
@@ -169,8 +176,7 @@ impl<S: Solid, T: Solid> Solid for Meet<S, T> {
     }
 
     fn clearance(&self, p: Point) -> Result<u32, QuestionFault> {
-        let left = self.left.clearance(p)?;
-        let right = self.right.clearance(p)?;
+        let (left, right) = both(&self.left, &self.right, p)?;
         Ok(left.max(right))
     }
 }
@@ -215,14 +221,9 @@ impl<S: Solid> Solid for Shift<S> {
         if offset > below {
             return self.below.clearance(p);
         }
-        if !p.within(below - offset) {
-            return Err(QuestionFault::BeyondReach);
-        }
-        self.below.clearance(Point {
-            x: p.x - self.by.x,
-            y: p.y - self.by.y,
-            z: p.z - self.by.z,
-        })
+        check_asked(below - offset, p)?;
+        let moved = p.checked_sub(self.by).ok_or(QuestionFault::BeyondReach)?;
+        self.below.clearance(moved)
     }
 }
 
@@ -289,8 +290,11 @@ impl<S: Drop> Cap<S> {
     pub fn new(below: S, most: i32) -> Result<Cap<S>, LayerFault>
         ensures { result_map_both (λ c. parts c.below c.most) (λ e. e) result ≡ result_map_both (parts below) (λ e. e) (cap_number most) }
     {
-        let most = first_number(most, CAP_LEAST, CAP_MOST)?;
-        Ok(Cap { below, most })
+        let most = in_range(most, CAP_LEAST, CAP_MOST, FIRST)?;
+        Ok(Cap {
+            below,
+            most: most.unsigned_abs(),
+        })
     }
 }
 
