@@ -3,7 +3,7 @@ ghost use Rattle.std.specs.Prelude.{◌≡◌, ◌≤◌, min};
 ghost use Rattle.checks.specs.Empty.{empty, empty_lawful};
 
 use lattice::Point;
-use solid::{QuestionFault, Solid};
+use solid::{QuestionFault, Solid, check_asked};
 
 /// A solid without members: every point has clearance 1. Its reach is as it was told.
 #[derive(Clone, Copy)]
@@ -36,9 +36,7 @@ impl Solid for Empty {
     }
 
     fn clearance(&self, p: Point) -> Result<u32, QuestionFault> {
-        if !p.within(self.reach) {
-            return Err(QuestionFault::BeyondReach);
-        }
+        check_asked(self.reach, p)?;
         Ok(1)
     }
 }

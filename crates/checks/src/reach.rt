@@ -24,36 +24,30 @@ fn one_pixel() -> ViewNumbers {
     }
 }
 
-/// The number by which a step over the solid is refused, or 0.
-fn step_number<S: Solid>(solid: &S) -> Result<u32, Fail> {
+/// The number by which a step over the solid is refused, if it is.
+fn step_number<S: Solid>(solid: &S) -> Result<Option<u32>, Fail> {
     match Marching::new(one_pixel(), 0, 0)?.step(solid) {
-        Ok(_) => Ok(0),
-        Err(stopped) => {
-            let (fault, _ray) = stopped;
-            Ok(fault.number())
-        }
+        Ok(_) => Ok(None),
+        Err((fault, _)) => Ok(Some(fault.number())),
     }
 }
 
-/// The number by which a shift of the solid is refused, or 0.
-fn shift_number<S: Solid + Drop>(solid: S, by: Point) -> u32 {
-    match Shift::new(solid, by) {
-        Ok(_) => 0,
-        Err(fault) => fault.number(),
-    }
+/// The number by which a shift of the solid is refused, if it is.
+fn shift_number<S: Solid + Drop>(solid: S, by: Point) -> Option<u32> {
+    Shift::new(solid, by).err().map(|fault| fault.number())
 }
 
 #[test]
 fn a_shift_takes_from_the_reach(rt: HostRuntime) -> Result<(), Fail> {
     let once = Shift::new(Empty::new(49150), along_x(16383))?;
     assert_eq!(rt; once.reach(), 32767);
-    assert_eq!(rt; step_number(&once)?, 0);
+    assert_eq!(rt; step_number(&once)?, None);
     let twice = Shift::new(once, along_x(-1))?;
     assert_eq!(rt; twice.reach(), 32766);
-    assert_eq!(rt; step_number(&twice)?, 16);
-    assert_eq!(rt; shift_number(Empty::new(16383), along_x(-16383)), 0);
-    assert_eq!(rt; shift_number(Empty::new(16382), along_x(-16383)), 11);
-    assert_eq!(rt; shift_number(Empty::new(0), along_x(-16384)), 4);
+    assert_eq!(rt; step_number(&twice)?, Some(16));
+    assert_eq!(rt; shift_number(Empty::new(16383), along_x(-16383)), None);
+    assert_eq!(rt; shift_number(Empty::new(16382), along_x(-16383)), Some(11));
+    assert_eq!(rt; shift_number(Empty::new(0), along_x(-16384)), Some(4));
     Ok(())
 }
 
