@@ -1,5 +1,5 @@
 -- Two sweeps, m probes over a body a and then n over a body b: when they are refused, and what a pixel says that was read after them.
-use Rattle.std.specs.Prelude.{◌≡◌, ℕ, ◌+◌, ◌*◌, ◌≤◌, Bool, false, cond, Ok, Err, Result, nat_lt}
+use Rattle.std.specs.Prelude.{◌≡◌, ℕ, ◌+◌, ◌*◌, ◌≤◌, Bool, ◌&&◌, cond, Ok, Err, Result, nat_lt}
 use Rattle.std.specs.Result.{result_and, result_map_both}
 use Rattle.lattice.specs.declared.Point.{Point}
 use Rattle.lattice.specs.Space.{In}
@@ -28,7 +28,7 @@ abbrev pub sweeps : Body → Result (Unit {0}) PlateFault
 sweeps b = cond (deep b) (Ok tt) (Err Shallow)
 
 abbrev pub reads : PlainView → (i j : ℕ) → Result (Unit {0}) PlateFault
-reads v i j = cond (cond (nat_lt i v.width) (nat_lt j v.height) false) (Ok tt) (Err NoPixel)
+reads v i j = cond (nat_lt i v.width && nat_lt j v.height) (Ok tt) (Err NoPixel)
 
 -- one call after another, up to the first that is refused
 abbrev pub ends : Result PlainView PlateFault → (a b : Body) (i j : ℕ) → Result (Unit {0}) PlateFault

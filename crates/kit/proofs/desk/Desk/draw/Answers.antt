@@ -1,15 +1,12 @@
-use Rattle.std.proofs.Common.{◌*◌, sym, arith, length-take}
+use Rattle.std.proofs.Common.{ℕ, ◌*◌, take, OnOk, sym, arith, length-take}
+use mathlib.Core.Path.{subst}
 use Rattle.readers.specs.Jobs.{job_numbers}
 use Rattle.scene.specs.Scenes.{scene_body}
+use Rattle.kit.specs.Laws.{Contact}
 use Rattle.kit.specs.Steps.{model_of}
 use Rattle.kit.proofs.Parts.{model_sound}
 use Rattle.kit.proofs.Wholes.{shown_so}
 use Rattle.kit.proofs.desk.Desk.draw.Goals as goal
-
-pub overflow_mul-columns : goal.overflow_mul-columns
-overflow_mul-columns c =
-    let m = model_of (job_numbers c.in_ok-job.job) (scene_body c.read_parts.new.scene) c.in_ok-job.size c.read_parts.new.heights in
-    omega (arith, (model_sound c.args.input.now m (sym c.in_ok-job.ensures)).few)
 
 pub slice_bounds-heights-end : goal.slice_bounds-heights-end
 slice_bounds-heights-end c =
@@ -20,18 +17,27 @@ slice_bounds-heights-end c =
 
 pub slice_bounds-draw_model-end : goal.slice_bounds-draw_model-end
 slice_bounds-draw_model-end c =
-    let m = model_of (job_numbers c.in_ok-job.job) (scene_body c.read_parts.new.scene) c.in_ok-job.size c.read_parts.new.heights in
-    sym (model_sound c.args.input.now m (sym c.in_ok-job.ensures)).long
+    let size = c.in_ok-job.size in
+    let hs = c.read_parts.new.heights in
+    let m = model_of (job_numbers c.in_ok-job.job) (scene_body c.read_parts.new.scene) size hs in
+    let s = model_sound c.args.input.now m (sym c.in_ok-job.ensures) in
+    omega (arith, s.long, length-take (size.width * size.depth) hs, length-take c.columns.result hs, c.columns.ensures)
 
 pub draw_model-requires : goal.draw_model-requires
 draw_model-requires c =
-    let m = model_of (job_numbers c.in_ok-job.job) (scene_body c.read_parts.new.scene) c.in_ok-job.size c.read_parts.new.heights in
+    let size = c.in_ok-job.size in
+    let hs = c.read_parts.new.heights in
+    let m = model_of (job_numbers c.in_ok-job.job) (scene_body c.read_parts.new.scene) size hs in
     let s = model_sound c.args.input.now m (sym c.in_ok-job.ensures) in
-    record { sides = s.sides; heights = s.long }
+    record { sides = s.sides; heights = omega (arith, s.long, length-take (size.width * size.depth) hs, length-take c.columns.result hs, c.columns.ensures) }
 
 pub returns-clause-shows : goal.returns-clause-shows
 returns-clause-shows c =
     let bs = c.args.input.now in
-    let m = model_of (job_numbers c.in_ok-job.job) (scene_body c.read_parts.new.scene) c.in_ok-job.size c.read_parts.new.heights in
+    let ns = job_numbers c.in_ok-job.job in
+    let body = scene_body c.read_parts.new.scene in
+    let size = c.in_ok-job.size in
+    let hs = c.read_parts.new.heights in
     let e = sym c.in_ok-job.ensures in
-    shown_so bs (job_numbers c.in_ok-job.job) (scene_body c.read_parts.new.scene) c.in_ok-job.size c.read_parts.new.heights e (model_sound bs m e).long c.draw_model.result c.draw_model.new.self.out.now c.draw_model.ensures.shows
+    let shown = subst (λ (n : ℕ). OnOk c.draw_model.result (Contact (model_of ns body size (take n hs)) c.draw_model.new.self.out.now)) c.columns.ensures c.draw_model.ensures.shows in
+    shown_so bs ns body size hs e (model_sound bs (model_of ns body size hs) e).long c.draw_model.result c.draw_model.new.self.out.now shown
