@@ -1,6 +1,6 @@
 -- What the calls on a plate's records answer and leave, as lines of a log.
 use mir.Val.{bool_byte}
-use Rattle.std.proofs.Common.{Bool, ◌≡◌, ℕ, zero, suc, ◌+◌, ◌-◌, ◌*◌, ◌<◌, ◌≤◌, true, false, cond, eqb, leb, List, [], ◌∷◌, ◌++◌, length, get_or, take, drop, set, replicate, Some, None, Err, Option, Result, sym, refl, ap, ◌∙◌, mul-le-mul, arith, length-append, length-drop, take-append-drop}
+use Rattle.std.proofs.Common.{Bool, ◌≡◌, ℕ, ◌+◌, ◌-◌, ◌*◌, ◌<◌, ◌≤◌, true, false, cond, eqb, leb, List, ◌++◌, length, get_or, take, drop, set, replicate, Some, None, Option, sym, refl, ap, ◌∙◌, mul-le-mul, arith, length-append, length-drop, take-append-drop}
 use lib.ListN.{length-replicate}
 use lib.Seq.{set-append_left}
 use Rattle.std.proofs.lemmas.List.{take_at, length-take-le, get_or-take, get_or_default}
@@ -8,13 +8,11 @@ use Rattle.std.proofs.lemmas.Bool.{cond-true, cond-false, cond_both, le-leb, lt-
 use Rattle.solid.specs.Body.{Body}
 use Rattle.march.specs.declared.pixel.Pixel.{Pixel}
 use Rattle.march.specs.declared.view.View.{View}
-use Rattle.std.specs.Option.{ok_or}
 use Rattle.march.specs.View.{place_answer}
 use Rattle.march.specs.March.{fresh, settled, marches}
-use Rattle.plate_log.specs.declared.fault.PlateFault.{PlateFault}
-use Rattle.plate_log.specs.declared.fault.PlateFault.TheVariants.{NoPixel, Shallow, StillMarching, NoRoom}
+use Rattle.plate_log.specs.declared.fault.PlateFault.TheVariants.{StillMarching, NoRoom}
 use Rattle.plate_log.specs.Sweep.{past, swept, marching, all_sane}
-use Rattle.plate_log.specs.Log.{Call, Answer, sweeping, touching, reading, writing, counted, told, wrote, refused, line, done, counts_of, state_of, left_in, written, image, along_ray, clear_at, area, place, has, deep, pixels}
+use Rattle.plate_log.specs.Log.{Call, Answer, sweeping, touching, reading, writing, counted, told, wrote, refused, line, done, left_in, written, image, along_ray, clear_at, area, place, has, deep, pixels}
 use Rattle.plate_log.specs.Law.{Promise}
 use Rattle.plate_log.proofs.Lift.{did}
 use Rattle.plate_log.proofs.Sums.{swept_length, line_length}
@@ -31,14 +29,6 @@ small v = mul-le-mul v.wide v.high
 pub long_pixels : (v : View) (rs : List Pixel) → area v ≤ length rs → length (pixels v rs) ≡ area v
 long_pixels v rs h = length-take-le (area v) rs h
 
-short : (n : ℕ) (rs : List Pixel) → length (take n rs) ≤ n
-short zero rs = omega arith
-short (suc n) [] = omega arith
-short (suc n) (r ∷ rs) = omega (arith, short n rs)
-
-pub short_pixels : (v : View) (rs : List Pixel) → length (pixels v rs) ≤ 4096
-short_pixels v rs = omega (arith, short (area v) rs, small v)
-
 -- the line of a call is what the plate promises of it
 pub promise : (v : View) (rs qs : List Pixel) (c : Call) (a : Answer) → area v ≤ length rs → ◌≡◌ {A = Answer × List Pixel} (a, qs) (done v rs c) → Promise v rs qs c
 promise v rs qs c a room e =
@@ -52,11 +42,7 @@ quiet : (v : View) (rs : List Pixel) (c : Call) (a : Answer) → line v (pixels 
 quiet v rs c a e =
     sym (ap (λ (l : Answer × List Pixel). (l.0, l.1 ++ drop (area v) rs)) e ∙ ap (λ (qs : List Pixel). (a, qs)) (take-append-drop (area v) rs))
 
--- sweep
-pub sweep_shallow : (v : View) (rs : List Pixel) (b : Body) (budget : ℕ) → b.reach < 32767 → ◌≡◌ {A = Answer × List Pixel} (refused Shallow, rs) (done v rs (sweeping b budget))
-sweep_shallow v rs b budget h = quiet v rs (sweeping b budget) (refused Shallow) (cond-false (deep b) _ _ (lt-leb 32767 b.reach h))
-
--- the first n records, which are the pixels, as a sweep leaves them
+-- sweep: the first n records, which are the pixels, as a sweep leaves them
 module _ (v : View) (rs ps : List Pixel) (b : Body) (budget n : ℕ) (all : n ≡ area v) (is : ps ≡ (swept (along_ray v b) v.far budget 0 (take n rs)).0) where
   pub sweep_done : (spent left : ℕ) → 32767 ≤ b.reach → spent ≡ budget - (swept (along_ray v b) v.far budget 0 (take n rs)).1 → left ≡ marching ps
       → ◌≡◌ {A = Answer × List Pixel} (counted spent left, ps ++ drop n rs) (done v rs (sweeping b budget))
@@ -89,38 +75,18 @@ placed v i j k o is e = from (sym is ∙ e)
         record { is = at; has_it = h; within = w; inside = omega (arith, place_in v i j w.0 w.1) })
         (λ _ e. let z : ◌≡◌ {A = ℕ} 0 1 = cc in absurd (omega arith))
 
-unplaced : (v : View) (i j : ℕ) (f : PlateFault) → Err f ≡ ok_or (place_answer v i j) NoPixel → (has v i j ≡ false) × (f ≡ NoPixel)
-unplaced v i j f = cond_both (has v i j) (Some (place v i j)) None (λ (o : Option ℕ). Err f ≡ ok_or o NoPixel → (has v i j ≡ false) × (f ≡ NoPixel))
-    (λ _ e. let z : ◌≡◌ {A = ℕ} 0 1 = cc in absurd (omega arith))
-    (λ h e. (h, cc))
-
 -- what the code reads at a place of the records is the pixel there
 at_place : (n k : ℕ) (rs : List Pixel) → k < n → n ≤ length rs → get_or rs k fresh ≡ get_or (take n rs) k past
 at_place n k rs h l = get_or_default rs k fresh past (omega arith) ∙ sym (get_or-take n rs k past h)
 
 -- read
-pub read_absent : (v : View) (rs : List Pixel) (i j : ℕ) (f g : PlateFault) (r : Result Pixel PlateFault) → Err f ≡ ok_or (place_answer v i j) NoPixel → r ≡ Err g → g ≡ f → ◌≡◌ {A = Answer × List Pixel} (state_of r, rs) (done v rs (reading i j))
-read_absent v rs i j f g r e is was =
-    let h = unplaced v i j f e in
-    ap (λ (r : Result Pixel PlateFault). (state_of r, rs)) is ∙ ap (λ (f : PlateFault). (refused f, rs)) (was ∙ h.1) ∙ quiet v rs (reading i j) (refused NoPixel) (cond-false (has v i j) _ _ h.0)
-
 pub read_done : (v : View) (rs : List Pixel) (i j k : ℕ) → area v ≤ length rs → Placed v i j k → ◌≡◌ {A = Answer × List Pixel} (told (get_or rs k fresh), rs) (done v rs (reading i j))
 read_done v rs i j k room p =
     quiet v rs (reading i j) (told (get_or rs k fresh))
     (cond-true (has v i j) _ _ p.has_it
     ∙ ap (λ (k : ℕ). (told (get_or (pixels v rs) k past), pixels v rs)) (sym p.is) ∙ ap (λ (q : Pixel). (told q, pixels v rs)) (sym (at_place (area v) k rs p.inside room)))
 
--- touch
-pub touch_absent : (v : View) (rs : List Pixel) (i j : ℕ) (b : Body) (budget : ℕ) (f g : PlateFault) (r : Result (ℕ × ℕ) PlateFault) → Err f ≡ ok_or (place_answer v i j) NoPixel → r ≡ Err g → g ≡ f → ◌≡◌ {A = Answer × List Pixel} (counts_of r, rs) (done v rs (touching i j b budget))
-touch_absent v rs i j b budget f g r e is was =
-    let h = unplaced v i j f e in
-    ap (λ (r : Result (ℕ × ℕ) PlateFault). (counts_of r, rs)) is ∙ ap (λ (f : PlateFault). (refused f, rs)) (was ∙ h.1) ∙ quiet v rs (touching i j b budget) (refused NoPixel) (cond-false (has v i j) _ _ h.0)
-
-pub touch_shallow : (v : View) (rs : List Pixel) (i j k : ℕ) (b : Body) (budget : ℕ) → Placed v i j k → b.reach < 32767 → ◌≡◌ {A = Answer × List Pixel} (refused Shallow, rs) (done v rs (touching i j b budget))
-touch_shallow v rs i j k b budget p h =
-    quiet v rs (touching i j b budget) (refused Shallow) (cond-true (has v i j) _ _ p.has_it ∙ cond-false (deep b) _ _ (lt-leb 32767 b.reach h))
-
--- a test as the number that the code makes of it
+-- touch: a test as the number that the code makes of it
 pub one_where : (b : Bool) → bool_byte b ≡ cond b 1 0
 one_where true = refl
 one_where false = refl
@@ -148,11 +114,7 @@ touch_done v rs q i j k b budget spent left room p h e f m =
     ∙ ap (λ (k : ℕ). let s = settled (along_ray v b (place v i j)) v.far budget (get_or ps k past) in (counted (budget - s.1) (cond (marches s.0) 1 0), set ps k s.0 ++ drop (area v) rs)) p.is
     ∙ sym (ap (λ (l : Answer × List Pixel). (l.0, l.1 ++ drop (area v) rs)) (cond-true (has v i j) _ _ p.has_it ∙ cond-true (deep b) _ _ (le-leb 32767 b.reach h)))
 
--- write
-pub write_line : (v : View) (rs : List Pixel) (room : ℕ) (l : Answer × List Pixel) → l ≡ line v (pixels v rs) (writing room) → l.1 ≡ pixels v rs → ◌≡◌ {A = Answer × List Pixel} (l.0, rs) (done v rs (writing room))
-write_line v rs room l e f = quiet v rs (writing room) l.0 (sym e ∙ ap (λ (qs : List Pixel). (l.0, qs)) f)
-
--- the same answer, with what is left in the bytes
+-- write: the answer, with what is left in the bytes
 abbrev Wrote : View → List Pixel → List ℕ → Answer → List ℕ → Type 0
 Wrote v rs old a out = (◌≡◌ {A = Answer × List ℕ} (a, out) (written v rs old)) × (◌≡◌ {A = Answer × List Pixel} (a, rs) (done v rs (writing (length old))))
 

@@ -1,6 +1,5 @@
 -- A sweep and a touch on their way, with a budget left: what going on from there gives.
-use Rattle.std.specs.Option.{IsSome}
-use Rattle.std.proofs.Common.{rules, Some, None, Option, ltb, ◌≡◌, ℕ, suc, ◌+◌, ◌-◌, ◌*◌, ◌<◌, ◌≤◌, true, false, List, [], ◌∷◌, ◌++◌, length, get_or, take, drop, set, sym, refl, ap, ◌∙◌, append_assoc, append-nil, add-zero, arith, length-drop, take-append-drop}
+use Rattle.std.proofs.Common.{Some, Option, ltb, ◌≡◌, ℕ, suc, ◌+◌, ◌-◌, ◌*◌, ◌<◌, ◌≤◌, true, false, List, [], ◌∷◌, ◌++◌, length, get_or, take, drop, set, sym, refl, ap, ◌∙◌, append_assoc, append-nil, add-zero, arith, length-drop, take-append-drop}
 use borrow.Rule.Slice.PartMut.{put_mid}
 use Rattle.std.proofs.lemmas.List.{drop_more, take_more_set, drop-set-lt, drop-drop, take_all, drop_all, length-take-le}
 use Rattle.std.proofs.lemmas.Nat.{mul-le}
@@ -177,22 +176,12 @@ module _ (v : View) (i j : ℕ) (hi : i < v.width) (hj : j < v.height) (o : Opti
   some_line : line_in o ≡ Some (start v i j, v.ray, v.far)
   some_line = is ∙ cond-true (has v i j) _ _ (and_from (ltb i v.width) (ltb j v.height) (lt-ltb i v.width hi) (lt-ltb j v.height hj))
 
-  pub has_ray : IsSome o
-  has_ray = from o some_line
-    where
-      from : (o : Option Ray) → line_in o ≡ Some (start v i j, v.ray, v.far) → IsSome o
-      from (Some r) e = search rules
-      from None e = let z : ◌≡◌ {A = ℕ} 0 1 = cc in absurd (omega arith)
-
   pub ray_line : (r : Ray) → o ≡ Some r → line r ≡ (start v i j, v.ray, v.far)
   ray_line r e = let q : line_in (Some r) ≡ Some (start v i j, v.ray, v.far) = ap line_in (sym e) ∙ some_line in cc
 
 -- its far, and the clearance along it
 pub ray_far : (v : View) (i j : ℕ) (r : Ray) → line r ≡ (start v i j, v.ray, v.far) → r.far ≡ v.far
 ray_far v i j r e = ap (λ l. l.2) e
-
-pub ray_clear : (v : View) (b : Body) (i j : ℕ) (r : Ray) → line r ≡ (start v i j, v.ray, v.far) → clear_along b r ≡ clear_at v b i j
-ray_clear v b i j r e = ap {B = ℕ → ℕ} (λ (l : Point × Direction × ℕ) (t : ℕ). b.clear (along l.0 t l.1)) e
 
 -- what it says of a pixel, it says of pixel (i, j)
 pub ray_settled : (v : View) (b : Body) (i j budget : ℕ) (r : Ray) (p : Pixel) → line r ≡ (start v i j, v.ray, v.far) → settled (clear_along b r) r.far budget p ≡ settled (clear_at v b i j) v.far budget p

@@ -1,6 +1,6 @@
 -- Opening a plate.
-use Rattle.std.proofs.Common.{◌≡◌, ℕ, ◌*◌, ◌<◌, ◌≤◌, ltb, List, ◌++◌, length, drop, replicate, Ok, Err, Result, sym, ap, ◌∙◌, arith}
-use Rattle.std.proofs.lemmas.Bool.{cond-true, cond-false, cond_both, lt-ltb, le-ltb}
+use Rattle.std.proofs.Common.{◌≡◌, ℕ, ◌*◌, ltb, List, ◌++◌, length, drop, replicate, Ok, Err, Result, ap, arith}
+use Rattle.std.proofs.lemmas.Bool.{cond_both}
 use Rattle.march.specs.declared.pixel.Pixel.{Pixel}
 use Rattle.march.specs.declared.view.ViewFault.{ViewFault}
 use Rattle.march.specs.declared.view.ViewNumbers.{ViewNumbers}
@@ -11,19 +11,6 @@ use Rattle.plate_log.specs.declared.fault.PlateFault.TheVariants.{View, TooFewRe
 use Rattle.plate_log.specs.Opening.{Opened, opened_by, opening}
 
 module _ (numbers : ViewNumbers) (old : PlainView) (rs : List Pixel) where
-  pub open_refused : (f : ViewFault) (g : PlateFault) (r : Result (Unit {0}) PlateFault) → Err f ≡ view_answer numbers → r ≡ Err g → g ≡ View f → ◌≡◌ {A = Opened} (r, old, rs) (opening numbers old rs)
-  open_refused f g r e is was = ap (λ (r : Result (Unit {0}) PlateFault). (r, old, rs)) is ∙ ap (λ (g : PlateFault). (Err g, old, rs)) was ∙ ap (λ (a : Result PlainView ViewFault). opened_by a old rs) e
-
-  pub open_few : (v : PlainView) → Ok v ≡ view_answer numbers → length rs < v.width * v.height → ◌≡◌ {A = Opened} (Err TooFewRecords, old, rs) (opening numbers old rs)
-  open_few v e h =
-      sym (cond-true (ltb (length rs) (v.width * v.height)) _ _ (lt-ltb (length rs) (v.width * v.height) h)) ∙ ap (λ (a : Result PlainView ViewFault). opened_by a old rs) e
-
-  pub open_done : (v : PlainView) (qs : List Pixel) → Ok v ≡ view_answer numbers → v.width * v.height ≤ length rs → qs ≡ replicate (v.width * v.height) fresh ++ drop (v.width * v.height) rs
-      → ◌≡◌ {A = Opened} (Ok tt, v, qs) (opening numbers old rs)
-  open_done v qs e h is =
-      ap (λ (qs : List Pixel). (Ok tt, v, qs)) is
-      ∙ sym (cond-false (ltb (length rs) (v.width * v.height)) _ _ (le-ltb (length rs) (v.width * v.height) h)) ∙ ap (λ (a : Result PlainView ViewFault). opened_by a old rs) e
-
   -- a plate that was opened has the view of its numbers
   pub opened_is : (v : PlainView) (qs : List Pixel) → ◌≡◌ {A = Opened} (Ok tt, v, qs) (opening numbers old rs) → Ok v ≡ view_answer numbers
   opened_is v qs e = from (view_answer numbers) e

@@ -15,11 +15,6 @@ returns-in_err-ray-clause-promise g c =
     let p = c.args.self.now in
     promise p.view p.records.now p.records.now (touching c.args.i c.args.j (g.S.Solid.body c.args.solid.now) c.args.budget) (counts_of c.from_residual.result) p.room (grind (arith, common_steps))
 
-pub returns-in_err-deep-clause-promise : goal.returns-in_err-deep-clause-promise
-returns-in_err-deep-clause-promise g c =
-    let p = c.args.self.now in
-    promise p.view p.records.now p.records.now (touching c.args.i c.args.j (g.S.Solid.body c.args.solid.now) c.args.budget) (counts_of c.from_residual-in_err-deep.result) p.room (grind (arith, common_steps))
-
 pub bounds-records-place : goal.bounds-records-place
 bounds-records-place g c =
     let p = c.args.self.now in
@@ -69,3 +64,8 @@ returns g c =
     (c.settle-spent.ensures.value ∙ ap (λ s. s.0) is) (c.settle-spent.ensures.spent ∙ ap (λ s. c.args.budget - s.1) is) left
     ∙ ap (λ (b : Body). done v rs (touching i j b c.args.budget)) same in
     record { line = l; promise = promise v rs (set rs k q) (touching i j (g.S.Solid.body c.args.solid.now) c.args.budget) _ p.room l; view = refl; lender = refl }
+
+pub returns-in_err-deep-clause-promise : goal.returns-in_err-deep-clause-promise
+returns-in_err-deep-clause-promise g c =
+    let p = c.args.self.now in
+    promise p.view p.records.now p.records.now (touching c.args.i c.args.j (g.S.Solid.body c.args.solid.now) c.args.budget) (counts_of c.from_residual-in_err-deep.result) p.room (grind (arith, common_steps))
