@@ -53,6 +53,3 @@ module _ (lo hi a : ℤ) (l : le_z lo hi ≡ true) where
 
   pub gap_nearest : gap a (nearest lo hi a) ≡ beside lo hi a
   gap_nearest = omega (arith, ints, rise_is (lo -ℤ a), rise_is (a -ℤ hi))
-
-pub between_in : (lo hi a : ℤ) → between lo hi a ≡ true → (lo ≤ℤ a) × (a ≤ℤ hi)
-between_in lo hi a e = let f = and_parts (le_z lo a) (le_z a hi) e in (omega (arith, ints, le-true lo a f.0), omega (arith, ints, le-true a hi f.1))

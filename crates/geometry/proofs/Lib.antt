@@ -7,4 +7,3 @@ pub mod Near
 pub mod Kept
 pub mod Piles
 pub mod Asked
-pub mod Shifts

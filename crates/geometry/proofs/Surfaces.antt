@@ -29,11 +29,6 @@ greatest_most (suc n) hs k l =
 le_chain : (a b c : ℤ) → le_z a b ≡ true → b ≤ℤ c → le_z a c ≡ true
 le_chain a b c e l = sym (true_is_le a c (omega (arith, ints)))
 
--- one height more
-pub greatest_more : (n : ℕ) (hs : List ℤ) → greatest (n + 1) hs ≡ int_max (greatest n hs) (get_or hs n lowest)
-unfolding greatest
-greatest_more n hs = rw add-one refl
-
 -- a column of n is below n
 column : (n : ℕ) (a : ℤ) → between (pos 0) (last n) a ≡ true → nat_abs a < n
 column n a e = let f = and_parts (le_z (pos 0) a) (le_z a (last n)) e in omega (arith, ints, le-true (pos 0) a f.0, le-true a (last n) f.1)

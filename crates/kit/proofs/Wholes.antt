@@ -113,6 +113,3 @@ refusal_written bs rs qs new_qs out text new e n word r k w f l =
     let g : new ≡ four (refusal_of e) ++ drop 4 out = f ∙ (λ t. four (w t) ++ drop 4 (r.bytes t)) in
     let h : new_qs ≡ rs = k ∙ r.records in
     (λ t. (l t, h t, g t)) ∙ sym (ap (λ (p : Result Model InputFault). drawn p rs out) r.is)
-
-pub nothing_shown : (bs : List ℕ) (rs qs : List Pixel) (out text new : List ℕ) (e : InputFault) → Refused bs e rs qs out text → (m : Model) → parsed bs ≡ Ok m → Contact m new
-nothing_shown bs rs qs out text new e r m p = let z : ◌≡◌ {A = Result Model InputFault} (Err e) (Ok m) = sym r.is ∙ p in let z : ◌≡◌ {A = ℕ} 0 1 = cc in absurd (omega arith)

@@ -81,7 +81,3 @@ contact b law deep m s e =
       takes = (k.0, k.2, count);
       most = omega (arith, m.counted, m.onto);
     }
-
--- what settling over a deep enough body answers
-pub settled_so : (b : Body) (m : Marching) (p : Pixel) → 32767 ≤ b.reach → p ≡ end b (plain_ray m) → Ok p ≡ settle_answer b m
-settled_so b m p deep e = ap Ok e ∙ sym (cond-false (ltb b.reach 32767) (Err (Shallow, m)) (Ok (end b (plain_ray m))) (le-ltb b.reach 32767 deep))
