@@ -78,7 +78,7 @@ fn height_at(heights: &[i16], column: usize) -> i16
     heights.get(column).copied().unwrap_or(LOWEST_HEIGHT)
 }
 
-/// The greatest height of the first `columns`.
+/// The greatest height of the first `columns`, of which there may be fewer.
 fn greatest(heights: &[i16], columns: usize) -> i16
     ensures { result ≡ greatest columns heights.now }
 {

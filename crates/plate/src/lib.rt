@@ -52,7 +52,8 @@ fn count_marching(pixels: &[Pixel]) -> u32
     pixels.iter().filter(|pixel| is_marching(**pixel)).count() as u32
 }
 
-/// Makes the first n records those of new rays.
+/// Makes the first n records those of new rays. It is lent all of them, since it promises of those past
+/// the n-th that they stay.
 fn renew(records: &mut [Pixel], n: usize)
     requires { n ≤ length records.old }
     ensures { records.new ≡ replicate n fresh ++ drop n records.old }

@@ -8,7 +8,8 @@ use words::fault::WordFault;
 
 pub mod reads;
 
-/// The columns of a surface: `width` of them along x, `depth` along y.
+/// The columns of a surface: `width` of them along x, `depth` along y. They are plain numbers, so that
+/// what is read can be set equal to its definition; the leaves' `Sheet` holds that they are in range too.
 #[derive(Clone, Copy, PartialEq, Eq, Debug)]
 pub struct SurfaceSize {
     pub width: u32,

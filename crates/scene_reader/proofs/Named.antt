@@ -47,7 +47,3 @@ node_word bs k n e =
     let same : word.0 / 268435456 ≡ n = ap (λ (w : ℕ × ℕ). w.0) (same_ok _ _ due.1) ∙ same_ok _ _ unnamed.1 in
     let t : (leb 3 n && leb n 8) ≡ true = subst (λ m. (leb 3 m && leb m 8) ≡ true) same due.0 in
     simp t
-
--- what was made stays made where only the error is mapped
-pub mapped : {A E D : Type 0} (r : Result A E) (m : Result A D) (x : A) (Q : E → Type 0) → r ≡ Ok x → MatchResult r (λ y. m ≡ Ok y) Q → m ≡ Ok x
-mapped r m x Q e h = rw e at h

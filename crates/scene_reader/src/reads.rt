@@ -15,7 +15,6 @@ use leaves::ball::{LEAST_RADIUS, MOST_RADIUS};
 use leaves::fault::{LEAST_COORDINATE, MOST_COORDINATE};
 use scene::Scene;
 use scene::draft::{Draft, DraftFault};
-use words::fault::WordFault;
 use words::kind::Kind as Word;
 use words::reader::Reader;
 
@@ -104,7 +103,7 @@ fn node(from: &mut Reader<'_>, draft: &mut Draft, count: usize) -> Result<(), Sc
 {
     let place = from.place();
     let number = from.bare(Word::Ball.number(), Word::Thicken.number())?;
-    let kind = Kind::try_from(number).map_err(|_| WordFault::Kind { place })?;
+    let kind = Kind::try_from(number).unwrap();
     check(draft, kind, place, count)?;
     lay(from, draft, place, kind)
 }

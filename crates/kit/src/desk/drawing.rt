@@ -124,6 +124,7 @@ impl Desk<'_> {
         ensures lender { SameLoans self.old self.new }
     {
         let mut scene = Scene::new();
+        // On no heap, since a caller in C lends none.
         let mut heights = [0; MOST_HEIGHTS];
         let (job, size) = read_parts(input, &mut scene, &mut heights)?;
         self.draw_model(&job, &scene, size, &heights[..size.columns()])

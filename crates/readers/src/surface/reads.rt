@@ -78,6 +78,7 @@ pub fn read_surface(
     ahead.next_part();
     let size = size(&mut ahead, buffer.len())?;
     let columns = size.columns();
+    // A sheet of its own, on no heap, so that a refused surface writes no height.
     let mut sheet = [0; MOST_HEIGHTS];
     heights(&mut ahead, &mut sheet[..columns])?;
     buffer[..columns].copy_from_slice(&sheet[..columns]);

@@ -1,34 +1,34 @@
-use Rattle.std.proofs.Common.{◌≡◌, ◌+◌, IfOk, Ok, sym, ◌∙◌, subst, arith, rules}
+use Rattle.std.proofs.Common.{◌≡◌, ◌+◌, IfOk, Ok, sym, refl, ◌∙◌, subst, arith, rules}
 use Rattle.words.specs.Cursor.{text, place}
 use Rattle.words.specs.Reading.{held, bare_at}
 use Rattle.scene.specs.States.{state}
 use Rattle.scene_reader.specs.Kinds.{kind_of, numbers}
 use Rattle.scene_reader.specs.Scenes.{checked, laid}
-use Rattle.scene_reader.proofs.Named.{node_word, mapped}
+use Rattle.scene_reader.proofs.Named.{node_word}
 use Rattle.scene_reader.proofs.Laying.{passes, joined, node_is, made_on}
 use Rattle.scene_reader.proofs.reads.node.Goals as goal
 
-pub returns-in_err-kind : goal.returns-in_err-kind
-returns-in_err-kind c =
+pub unwrap-kind-requires : goal.unwrap-kind-requires
+unwrap-kind-requires c =
     let b : bare_at (text c.args.from.now) (place c.args.from.now) 3 8 ≡ Ok c.in_ok-number.number = search rules in
-    let m = mapped c.try_from.result c.map_err.result (kind_of c.in_ok-number.number) _ (c.try_from.ensures ∙ node_word _ _ _ b) c.map_err.ensures.cases in
-    absurd (cc (m, c.in_err-kind.was))
+    let t : c.try_from.result ≡ Ok (kind_of c.in_ok-number.number) = c.try_from.ensures ∙ node_word _ _ _ b in
+    rw t refl
 
 pub lay-requires : goal.lay-requires
 lay-requires c =
-    let h : checked c.args.count c.place-place.result (state c.args.draft.now).0 c.in_ok-kind.kind (state c.args.draft.now).1 ≡ Ok c.in_ok-check.field-0 = search rules in
-    record { here = search rules; room = (passes c.args.count c.place-place.result (state c.args.draft.now).0 c.in_ok-kind.kind (state c.args.draft.now).1 _ h).0 }
+    let h : checked c.args.count c.place-place.result (state c.args.draft.now).0 c.unwrap-kind.result (state c.args.draft.now).1 ≡ Ok c.in_ok-check.field-0 = search rules in
+    record { here = search rules; room = (passes c.args.count c.place-place.result (state c.args.draft.now).0 c.unwrap-kind.result (state c.args.draft.now).1 _ h).0 }
 
 pub returns : goal.returns
 returns c =
     let bs = text c.args.from.now in
     let k = place c.args.from.now in
     let x = state c.args.draft.now in
-    let kind = c.in_ok-kind.kind in
+    let kind = c.unwrap-kind.result in
     let p : c.place-place.result ≡ k = search rules in
     let b : bare_at bs k 3 8 ≡ Ok c.in_ok-number.number = search rules in
-    let m = mapped c.try_from.result c.map_err.result (kind_of c.in_ok-number.number) _ (c.try_from.ensures ∙ node_word bs k _ b) c.map_err.ensures.cases in
-    let e : kind ≡ kind_of c.in_ok-number.number = cc (m, c.in_ok-kind.was) in
+    let t : c.try_from.result ≡ Ok (kind_of c.in_ok-number.number) = c.try_from.ensures ∙ node_word bs k _ b in
+    let e : kind ≡ kind_of c.in_ok-number.number = cc (t, c.unwrap-kind.ensures) in
     let h : checked c.args.count k x.0 kind x.1 ≡ Ok c.in_ok-check.field-0 = search rules in
     let v : held c.lay.result (state c.lay.new.draft).1 ≡ laid bs k kind x.1 = search rules in
     let l : IfOk c.lay.result (λ _. place c.lay.new.from ≡ k + 1 + numbers kind) = subst (λ z. IfOk c.lay.result (λ _. place c.lay.new.from ≡ z + 1 + numbers kind)) p c.lay.ensures.moved in
