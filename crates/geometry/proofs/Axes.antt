@@ -1,5 +1,5 @@
 -- One axis of a box: how far a number lies outside lo..hi.
-use Rattle.std.proofs.Common.{◌≡◌, ◌+◌, ◌-◌, ◌≤◌, true, ℤ, pos, negsuc, ◌+ℤ◌, ◌-ℤ◌, nat_abs, ◌≤ℤ◌, sym, arith}
+use Rattle.std.proofs.Common.{◌≡◌, ◌+◌, ◌-◌, ◌≤◌, true, ℤ, pos, negsuc, ◌+ℤ◌, ◌-ℤ◌, nat_abs, sym, arith}
 use lib.Signed.{le_z}
 use borrow.Author.Differences.{ints, up, down, true_is_le, le-true}
 use Rattle.std.proofs.lemmas.Bool.{and_parts, and_from}

@@ -1,8 +1,7 @@
 -- The surface's body is lawful, and what the surface answers.
-use Rattle.std.proofs.Common.{◌≡◌, ℕ, zero, suc, ◌+◌, ◌*◌, ◌<◌, ◌≤◌, max, true, false, ◌&&◌, List, get_or, ℤ, pos, ◌-ℤ◌, nat_abs, ◌≤ℤ◌, Ok, Err, sym, refl, ap, ◌∙◌, ⊎_elim, add-one, arith}
+use Rattle.std.proofs.Common.{◌≡◌, ℕ, zero, suc, ◌+◌, ◌*◌, ◌<◌, ◌≤◌, max, true, false, ◌&&◌, List, get_or, ℤ, pos, ◌-ℤ◌, nat_abs, ◌≤ℤ◌, Ok, Err, sym, ap, ◌∙◌, ⊎_elim, arith}
 use lib.Signed.{le_z}
 use borrow.Author.Differences.{ints, le-true, true_is_le}
-use Rattle.std.specs.Int.{int_max}
 use Rattle.std.proofs.lemmas.Nat.{mul-add-lt}
 use Rattle.std.proofs.lemmas.Int.{clamps}
 use Rattle.std.proofs.lemmas.Bool.{and_parts, cond-true, cond-false, cond_both, cases_lt, both_ways, true≢false}

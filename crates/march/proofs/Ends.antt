@@ -1,7 +1,6 @@
 -- A ray that is stepped until it settles: each step keeps the end of its march, and what that end tells.
-use Rattle.std.proofs.Common.{◌≡◌, ℕ, ◌+◌, ◌-◌, ◌<◌, ◌≤◌, false, ltb, Ok, Err, sym, refl, ap, ◌∙◌, subst, add-one, arith}
+use Rattle.std.proofs.Common.{◌≡◌, ℕ, ◌+◌, ◌-◌, ◌<◌, ◌≤◌, false, sym, refl, ap, ◌∙◌, subst, add-one, arith}
 use mathlib.Core.Path.{subst⁻¹}
-use Rattle.std.proofs.lemmas.Bool.{cond-false, le-ltb}
 use Rattle.lattice.specs.Space.{In}
 use Rattle.solid.specs.Body.{Body, Lawful}
 use Rattle.march.specs.declared.pixel.Pixel.{Pixel}
@@ -9,10 +8,9 @@ use Rattle.march.specs.declared.pixel.Pixel.TheVariants.{Marching as marching, H
 use Rattle.march.specs.declared.rays.Marching.{Marching}
 use Rattle.march.specs.declared.rays.Outcome.TheVariants.{Hit, Miss}
 use Rattle.march.specs.declared.rays.Settled.{Settled}
-use Rattle.march.specs.declared.rays.StepFault.TheVariants.{Shallow}
 use Rattle.march.specs.March.{stepped, settled, marches, probes, Right}
 use Rattle.march.specs.View.{along}
-use Rattle.march.specs.Rays.{PlainRay, plain_ray, clear_of, member_of, state, on, done, after, step_of, end, settle_answer, Contact}
+use Rattle.march.specs.Rays.{PlainRay, plain_ray, clear_of, member_of, state, on, done, after, step_of, end, Contact}
 use Rattle.march.proofs.Ray.{stepped_by, settled_stays, settled_same, right_settled, takes_some, takes_settles, Settles}
 use Rattle.march.proofs.Space.{ray_in}
 use Rattle.march.proofs.Bodies.{body_clears}

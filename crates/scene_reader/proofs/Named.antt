@@ -1,5 +1,5 @@
 -- The kinds of nodes among the kinds of words.
-use Rattle.std.proofs.Common.{◌≡◌, ℕ, ◌/◌, ◌≢◌, true, false, ◌&&◌, leb, List, MatchResult, Ok, Err, Result, refl, ap, ◌∙◌, subst, arith}
+use Rattle.std.proofs.Common.{◌≡◌, ℕ, ◌/◌, ◌≢◌, true, false, ◌&&◌, leb, List, Ok, Err, refl, ap, ◌∙◌, subst, arith}
 use Rattle.std.proofs.lemmas.Bool.Decides.{nat_tests}
 use Rattle.words.specs.Kinds.{kind_number}
 use Rattle.words.specs.Reading.{word_at, kind_at, bare_at}

@@ -1,6 +1,0 @@
-use Rattle.std.proofs.Common.{rules}
-use Rattle.std.proofs.lemmas.Slice.{put_mid-paste}
-use Rattle.plate.proofs.put.Goals as goal
-
-pub returns : goal.returns
-returns c = search (rules, put_mid-paste)
