@@ -13,7 +13,8 @@ ghost use Rattle.geometry.specs.Stands.{PilesStand};
 use lattice::Point;
 use solid::{QuestionFault, Solid};
 
-/// Is `lo` above `hi` on no axis?
+/// Is `lo` above `hi` on no axis? Two such corners in their range are the leaves' `AxisBox`; no struct
+/// stands here for both.
 pub fn ordered(lo: Point, hi: Point) -> bool
     ensures { result ≡ ordered lo hi }
 {

@@ -1,5 +1,5 @@
 //! Scenes built by calls: too many nodes, and shifts that use up the reach.
-use crate::files::{Answer, number_and_place};
+use crate::files::{Answer, answer};
 use lattice::Point;
 use scene::Scene;
 use scene::draft::{Draft, DraftFault};
@@ -15,12 +15,10 @@ const FARTHEST: Point = Point {
 };
 
 /// The reach of the scene, or the number and the place of a refused call.
-fn told(answer: Result<(), DraftFault>, draft: &Draft) -> Answer<u32> {
+fn told(called: Result<(), DraftFault>, draft: &Draft) -> Answer<u32> {
     let mut scene = Scene::new();
-    match answer.and(scene.fill(draft)) {
-        Ok(()) => Ok(scene.reach()),
-        Err(fault) => Err(number_and_place(&fault)),
-    }
+    answer(called.and(scene.fill(draft)))?;
+    Ok(scene.reach())
 }
 
 /// A ball, and so many shifts of it.

@@ -2,13 +2,12 @@
 use refusal::Refusal;
 use std::alloc::{AllocError, Global};
 
-/// What is read, or the number and the place of its refusal. Each part is told by a `told` of its
-/// own: one over a closure would need a `requires` and be no shorter.
+/// What is read, or the number and the place of its refusal.
 pub(crate) type Answer<T> = Result<T, (u32, u32)>;
 
-/// The number and the place of a fault.
-pub(crate) fn number_and_place<F: Refusal>(fault: &F) -> (u32, u32) {
-    (fault.number(), fault.place())
+/// That, of what a reading or a call answered.
+pub(crate) fn answer<T, F: Refusal + Drop>(answered: Result<T, F>) -> Answer<T> {
+    answered.map_err(|fault| (fault.number(), fault.place()))
 }
 
 /// A number word: its kind stands in bits 31..28.

@@ -1,5 +1,5 @@
 //! Jobs: truncated, of another kind, with a bit too many, out of range, and with two faults at once.
-use crate::files::{Answer, cut, file_of, number, number_and_place, with};
+use crate::files::{Answer, answer, cut, file_of, number, with};
 use readers::job::reads::read_job;
 use std::process::Abort;
 use std::test::*;
@@ -31,10 +31,7 @@ const JOB: [u32; 20] = [
 
 /// Whether a job is read, or else the number and the place of its refusal.
 fn told(bytes: &[u8]) -> Answer<()> {
-    match read_job(&mut Reader::new(bytes)) {
-        Ok(_) => Ok(()),
-        Err(fault) => Err(number_and_place(&fault)),
-    }
+    answer(read_job(&mut Reader::new(bytes)).map(|_| ()))
 }
 
 /// That for one word in place of its own.

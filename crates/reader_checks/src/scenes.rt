@@ -1,11 +1,12 @@
 //! Scenes: whole, damaged, too long, and too far from their reach.
-use crate::files::{Answer, cut, file_of, number, number_and_place, with};
+use crate::files::{Answer, answer, cut, file_of, number, with};
 use scene::Scene;
 use scene_reader::reads::read_scene;
 use solid::Solid;
 use std::test::*;
 use words::reader::Reader;
 
+// Words as a file has them, so that their kinds come from outside the code.
 const BALL: u32 = 0x3000_0000;
 
 const BOX: u32 = 0x4000_0000;
@@ -62,10 +63,8 @@ const SCENE: [u32; 20] = [
 /// The reach of a scene, or the number and the place of its refusal.
 fn told(bytes: &[u8]) -> Answer<u32> {
     let mut scene = Scene::new();
-    match read_scene(&mut Reader::new(bytes), &mut scene) {
-        Ok(()) => Ok(scene.reach()),
-        Err(fault) => Err(number_and_place(&fault)),
-    }
+    answer(read_scene(&mut Reader::new(bytes), &mut scene))?;
+    Ok(scene.reach())
 }
 
 fn told_of(rt: &HostRuntime, words: &[u32]) -> Result<Answer<u32>, Fail> {

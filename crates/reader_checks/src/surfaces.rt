@@ -1,5 +1,5 @@
 //! Surfaces: truncated, of wrong sizes, and over buffers that are too short.
-use crate::files::{Answer, cut, file_of, number_and_place, with};
+use crate::files::{Answer, answer, cut, file_of, with};
 use readers::surface::reads::read_surface;
 use std::process::Abort;
 use std::test::*;
@@ -16,10 +16,7 @@ const SURFACE: [u32; 5] = [
 
 /// Whether a surface is read, or else the number and the place of its refusal.
 fn told(bytes: &[u8], buffer: &mut [i16]) -> Answer<()> {
-    match read_surface(&mut Reader::new(bytes), buffer) {
-        Ok(_) => Ok(()),
-        Err(fault) => Err(number_and_place(&fault)),
-    }
+    answer(read_surface(&mut Reader::new(bytes), buffer).map(|_| ()))
 }
 
 #[test]
