@@ -15,13 +15,18 @@ pub(crate) fn number(n: i16) -> u32 {
     0x2000_0000 | u32::from(n.cast_unsigned())
 }
 
-/// The words, the one at `place` in place of its own.
-pub(crate) fn with<const N: usize>(words: [u32; N], place: u32, word: u32) -> [u32; N] {
+/// The words as a file, the one at `place` in place of its own.
+pub(crate) fn with<const N: usize>(
+    heap: Global,
+    words: [u32; N],
+    place: u32,
+    word: u32,
+) -> Result<Vec<u8>, AllocError> {
     let mut changed = words;
     if let Some(own) = changed.get_mut(place as usize) {
         *own = word;
     }
-    changed
+    file_of(heap, &changed)
 }
 
 /// The words as a file.

@@ -36,7 +36,7 @@ fn told(bytes: &[u8]) -> Answer<()> {
 
 /// That for one word in place of its own.
 fn told_with(rt: &impl AllocGlobal, place: u32, word: u32) -> Result<Answer<()>, Fail> {
-    let file = file_of(rt.alloc(), &with(JOB, place, word))?;
+    let file = with(rt.alloc(), JOB, place, word)?;
     Ok(told(&file))
 }
 
@@ -123,9 +123,9 @@ fn numbers_of_a_job_out_of_range(rt: HostRuntime) -> Result<(), Fail> {
 fn corners_come_last(rt: HostRuntime) -> Result<(), Fail> {
     assert_eq!(rt; told_with(&rt, 16, number(101))?, Err((6, 14)));
     assert_eq!(rt; told_with(&rt, 17, number(-101))?, Err((6, 14)));
-    let crossed = file_of(rt.alloc(), &with(JOB, 14, number(101)))?;
+    let crossed = with(rt.alloc(), JOB, 14, number(101))?;
     assert_eq!(rt; told(cut(&crossed, 79)), Err((1, 19)));
-    let range = file_of(rt.alloc(), &with(JOB, 4, number(13)))?;
+    let range = with(rt.alloc(), JOB, 4, number(13))?;
     assert_eq!(rt; told(cut(&range, 20)), Err((5, 4)));
     assert_eq!(rt; told(cut(&range, 19)), Err((1, 4)));
     Ok(())

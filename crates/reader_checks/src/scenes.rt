@@ -73,7 +73,8 @@ fn told_of(rt: &HostRuntime, words: &[u32]) -> Result<Answer<u32>, Fail> {
 }
 
 fn told_with(rt: &HostRuntime, place: u32, word: u32) -> Result<Answer<u32>, Fail> {
-    told_of(rt, &with(SCENE, place, word))
+    let file = with(rt.alloc(), SCENE, place, word)?;
+    Ok(told(&file))
 }
 
 #[test]

@@ -44,7 +44,7 @@ fn each_height(
     heights: &mut [i16],
 ) -> Result<(), Fail> {
     for place in 1..5 {
-        let file = file_of(rt.alloc(), &with(SURFACE, place, word))?;
+        let file = with(rt.alloc(), SURFACE, place, word)?;
         assert_eq!(rt; told(&file, heights), Err((by, place)));
     }
     Ok(())
@@ -71,7 +71,7 @@ fn every_kind_at_every_place_of_a_surface(rt: HostRuntime) -> Result<(), Fail> {
                 (_, 2) => Ok(()),
                 _ => Err((2, place)),
             };
-            let file = file_of(rt.alloc(), &with(SURFACE, place, kind * 0x1000_0000))?;
+            let file = with(rt.alloc(), SURFACE, place, kind * 0x1000_0000)?;
             let mut heights = [7; 4];
             assert_eq!(rt; told(&file, &mut heights), told_by_rule);
         }
@@ -81,7 +81,7 @@ fn every_kind_at_every_place_of_a_surface(rt: HostRuntime) -> Result<(), Fail> {
 
 /// A start word in place of its own, over a buffer of four heights.
 fn start(rt: &HostRuntime, word: u32) -> Result<Answer<()>, Fail> {
-    let file = file_of(rt.alloc(), &with(SURFACE, 0, word))?;
+    let file = with(rt.alloc(), SURFACE, 0, word)?;
     let mut heights = [7; 4];
     Ok(told(&file, &mut heights))
 }
