@@ -13,8 +13,8 @@ ghost use Rattle.geometry.specs.Stands.{PilesStand};
 use lattice::Point;
 use solid::{QuestionFault, Solid};
 
-/// Is `lo` above `hi` on no axis? Two such corners in their range are the leaves' `AxisBox`; no struct
-/// stands here for both.
+/// Is `lo` above `hi` on no axis? Two corners that are in order and in range are an `AxisBox`; this is its
+/// test, and so takes any two points.
 pub fn ordered(lo: Point, hi: Point) -> bool
     ensures { result ≡ ordered lo hi }
 {

@@ -4,6 +4,7 @@
 #![tactic(auto)]
 
 use anyhow::anyhow;
+use hex::FromHexError;
 use kit::{MOST_BYTES, MOST_PIXELS, render};
 use march::pixel::Pixel;
 use refusal::told::Told;
@@ -19,7 +20,15 @@ const WORD: usize = 4;
 
 /// The bytes that a text in hexadecimal has.
 fn decoded(heap: Global, text: &str) -> anyhow::Result<Vec<u8>> {
-    hex::decode(heap, text).map_err(|_| anyhow!("a line of the sample is not hexadecimal"))
+    if text.bytes().any(|letter| letter.is_ascii_uppercase()) {
+        return Err(anyhow!("a line of the sample is not hexadecimal"));
+    }
+    match hex::decode(heap, text) {
+        Err(FromHexError::InvalidHexCharacter { .. } | FromHexError::OddLength) => {
+            Err(anyhow!("a line of the sample is not hexadecimal"))
+        }
+        decoded => Ok(decoded?),
+    }
 }
 
 /// Are all bytes from the place `from` on blank?

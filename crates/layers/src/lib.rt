@@ -182,7 +182,8 @@ impl<S: Solid, T: Solid> Solid for Meet<S, T> {
 }
 
 /// The solid below, moved by an offset, and exact if that one is. An offset that passes the reach
-/// below would mean no offset; no such shift is made.
+/// below would mean no offset; no such shift is made. No invariant names the reach below, so that a
+/// shift of any solid has a meaning.
 #[derive(Drop)]
 pub struct Shift<S> {
     below: S,

@@ -73,7 +73,8 @@ pub const LEAST_COORDINATE: i32 = -16_384;
 
 pub const MOST_COORDINATE: i32 = 16_383;
 
-/// Checks the three numbers of a point, the first of which stands at the place `first`.
+/// Checks the three numbers of a point, the first of which stands at the place `first`. A function for
+/// every crate would have to take a place that has none after it.
 #[tactic(auto, unfolding(crate::specs::Made::point_ranged, crate::specs::Made::ranged))]
 pub(crate) fn check_point(p: Point, first: u32) -> Result<(), LeafFault>
     requires { first ≤ 4 }

@@ -1,5 +1,5 @@
 -- A lawful body along a ray, by its members and clearances at the ray's points.
-use Rattle.std.proofs.Common.{◌≡◌, ℕ, ◌≤◌, Bool, true, Ok, Err, Result, sym, ap, ◌∙◌, arith}
+use Rattle.std.proofs.Common.{◌≡◌, ℕ, ◌≤◌, Bool, true, Ok, Err, Result, IsOk, refl, sym, ap, ◌∙◌, arith}
 use Rattle.std.proofs.lemmas.Bool.{cond-true, and_from, le-leb}
 use Rattle.lattice.specs.Space.{In, within}
 use Rattle.lattice.specs.declared.Point.{Point}
@@ -41,8 +41,6 @@ answer_in b p h deep =
     cond-true (within b.reach p) (Ok (b.clear p)) (Err BeyondReach)
     (and_from _ _ (le-leb _ _ i.0) (and_from _ _ (le-leb _ _ i.1) (le-leb _ _ i.2)))
 
-never : {A : Type 0} (o : Result ℕ QuestionFault) (n : ℕ) (f : QuestionFault) → o ≡ Ok n → Err f ≡ o → A
-never o n f p q = let z : ◌≡◌ {A = ℕ} 0 1 = cc in absurd (omega arith)
-
-pub never_refused : {A : Type 0} (b : Body) (p q : Point) (f : QuestionFault) → q ≡ p → In 32767 p → 32767 ≤ b.reach → Err f ≡ answer b q → A
-never_refused b p q f same h deep r = never (answer b p) (b.clear p) f (answer_in b p h deep) (r ∙ ap (answer b) same)
+-- so a question there is answered
+pub answered_in : (b : Body) (p q : Point) (o : Result ℕ QuestionFault) → o ≡ answer b q → q ≡ p → In 32767 p → 32767 ≤ b.reach → IsOk o
+answered_in b p q o e same h deep = rw (e ∙ ap (answer b) same ∙ answer_in b p h deep) refl

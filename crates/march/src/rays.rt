@@ -50,8 +50,8 @@ impl Marching {
     }
 }
 
-/// How a ray settled: at the depth of its first contact, or with none up to its end. An `Option` of
-/// the depth would name a miss as what is lacking, and would not say that the ray has settled.
+/// How a ray settled: at the depth of its first contact, or with none up to its end. `Settled::depth`
+/// gives the depth as an `Option`; here a miss has its name, as it is no lack of an outcome.
 #[derive(Clone, Copy, PartialEq, Eq, Debug)]
 pub enum Outcome {
     Hit { depth: u32 },
@@ -65,8 +65,8 @@ pub struct Settled {
     probes: u32,
 }
 
-/// What a step leaves: a ray that marches on, or one that has settled. Neither of the two is a
-/// fault, as a `Result` would have it.
+/// What a step leaves: a ray that marches on, or one that has settled. A `Result` would call one of
+/// them a fault, and a `ControlFlow` would say what a loop does and not what the ray is.
 #[derive(Drop)]
 pub enum Stepped {
     On(Marching),

@@ -16,7 +16,8 @@ use plate_log::fault::PlateFault;
 use solid::Solid;
 
 impl<'a> Plate<'a> {
-    /// A plate that is not opened: it has no pixels.
+    /// A plate that is not opened: its view is one of no pixels, so that every call has a view to
+    /// answer by.
     pub fn new(records: &'a mut [Pixel]) -> Plate<'a>
         ensures value { (result.records.now ≡ records.old) × (plain_view result.view ≡ blank) }
         ensures empty { pixels result.view result.records.now ≡ stands result.view [] }
@@ -52,7 +53,7 @@ impl<'a> Plate<'a> {
         if n > self.records.len() {
             return Err(PlateFault::TooFewRecords);
         }
-        renew(self.records, n);
+        renew(&mut self.records[..n]);
         self.view = view;
         Ok(())
     }
@@ -73,8 +74,8 @@ impl<'a> Plate<'a> {
         Ok((spent, left))
     }
 
-    /// Steps one pixel until it settles or the budget is spent. The probes that it spent, and 1
-    /// while the pixel marches, else 0.
+    /// Steps one pixel until it settles or the budget is spent. The probes that it spent, and, counted
+    /// as a sweep counts them, the pixels that still march: 1 or 0.
     pub fn touch<S: Solid>(
         &mut self,
         i: u32,

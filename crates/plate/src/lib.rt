@@ -52,13 +52,11 @@ fn count_marching(pixels: &[Pixel]) -> u32
     pixels.iter().filter(|pixel| is_marching(**pixel)).count() as u32
 }
 
-/// Makes the first n records those of new rays. It is lent all of them, since it promises of those past
-/// the n-th that they stay.
-fn renew(records: &mut [Pixel], n: usize)
-    requires { n ≤ length records.old }
-    ensures { records.new ≡ replicate n fresh ++ drop n records.old }
+/// Makes the pixels those of new rays.
+fn renew(pixels: &mut [Pixel])
+    ensures { pixels.new ≡ replicate (length pixels.old) fresh }
 {
-    records[..n].fill(Pixel::Marching { t: 0, probes: 0 });
+    pixels.fill(Pixel::Marching { t: 0, probes: 0 });
 }
 
 /// Steps the pixels row by row, each until it settles, and stops the moment the budget is spent.
@@ -72,6 +70,7 @@ fn sweep_all<S: Solid>(pixels: &mut [Pixel], view: View, solid: &Deep<'_, S>, bu
 {
     let width = view.width as usize;
     let mut spent = 0;
+    // The steps stand in a loop within the two others, so that a spent budget leaves all three at once.
     // Rows by `chunks_exact_mut`, and by `split_at_mut` of what is left, were tried: of the pixels
     // after such a loop the checker knows nothing.
     'sweep: for j in 0..view.height {

@@ -2,7 +2,7 @@
 use refusal::Refusal;
 use std::alloc::{AllocError, Global};
 
-/// What is read, or the number and the place of its refusal.
+/// What is read, or the number and the place of its refusal, as a pair that is short to write.
 pub(crate) type Answer<T> = Result<T, (u32, u32)>;
 
 /// That, of what a reading or a call answered.

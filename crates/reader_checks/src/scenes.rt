@@ -133,15 +133,9 @@ fn shape(kind: u32) -> Option<(u32, u32)> {
 /// The first place after the word of a node with so many numbers where the scene has no number though
 /// one is due, or, where the next node is due, a number.
 fn first_misfit(node: u32, numbers: u32) -> Option<u32> {
-    for place in 0..20 {
-        if place > node && place - node - 1 <= numbers {
-            let is_due = place - node <= numbers;
-            if standing_at(place).is_none() != is_due {
-                return Some(place);
-            }
-        }
-    }
-    None
+    let after = node.saturating_add(1);
+    (after..20).take(numbers as usize + 1).find(|place| standing_at(*place).is_none()
+        != (place.saturating_sub(node) <= numbers))
 }
 
 /// What the scene tells with a word of another kind, all of whose other bits are zero, in the

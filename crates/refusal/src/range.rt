@@ -22,8 +22,8 @@ impl Refusal for OutOfRange {
     }
 }
 
-/// The number, which stands at that place, if it lies in `least..=most`. The bounds are two numbers,
-/// since the value of a constant cannot be a range.
+/// The number, which stands at that place, if it lies in `least..=most`. The bounds are two numbers:
+/// a constant's value cannot be the library's range, and a struct of ours would be one more name for it.
 pub fn in_range(n: i32, least: i32, most: i32, place: u32) -> Result<i32, OutOfRange>
     ensures { result ≡ in_range n least most place }
 {

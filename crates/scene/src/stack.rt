@@ -1,9 +1,9 @@
 //! A stack in a room of fixed size.
 ghost use Rattle.std.specs.Prelude.{◌≡◌, ◌+◌, ◌<◌, ◌≤◌, length, take, slice_set};
 
-/// Items one on another, the last on top: the first `height` of a row of `N`. An
-/// `arrayvec::ArrayVec` is no `Copy`, and its `clone` may fail; a scene is copied, and its filling
-/// always finds memory.
+/// Items one on another, the last on top: the first `height` of a row of `N`, on no heap. An
+/// `arrayvec::ArrayVec` is no `Copy`, as a scene is, and its `clone` may fail. That the height is in the row
+/// is said where a stack is held: a generic struct with a ghost field cannot derive `Clone`.
 #[derive(Clone, Copy, Drop)]
 pub struct Stack<T, const N: usize> {
     pub(crate) items: [T; N],

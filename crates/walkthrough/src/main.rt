@@ -3,10 +3,9 @@
 
 use anyhow::anyhow;
 use lattice::Point;
-use layers::{Cap, LayerFault, Meet, Shift, Thicken, Unite};
+use layers::{Cap, Meet, Shift, Thicken, Unite};
 use leaves::axis_box::AxisBox;
 use leaves::ball::Ball;
-use leaves::fault::LeafFault;
 use march::rays::{Marching, Outcome, Settled, Stepped};
 use march::view::ViewNumbers;
 use refusal::Refusal;

@@ -59,14 +59,6 @@ impl Kind {
     }
 }
 
-impl From<Kind> for u32 {
-    ghost from_gives = { λ kind n. n ≡ kind_number kind };
-
-    fn from(kind: Kind) -> u32 {
-        kind.number()
-    }
-}
-
 impl TryFrom<u32> for Kind {
     type Error = UnknownKind;
 

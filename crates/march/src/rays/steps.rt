@@ -93,11 +93,9 @@ impl Marching {
         ensures step { plain_stepped result ≡ step_of (S.Solid.body solid.now.solid.now) (plain_ray self) }
         ensures pixel { pixel_of result ≡ stepped self.ray.far self.t self.probes ((S.Solid.body solid.now.solid.now).clear (along self.ray.start self.t self.ray.toward)) }
     {
-        match solid.solid.clearance(self.tip()) {
-            Ok(c) => self.answered(c),
-            // It never comes to this: every point of a ray lies in the working range.
-            Err(_) => Stepped::On(self),
-        }
+        // Every point of a ray lies in the working range, where the solid answers.
+        let clearance = solid.solid.clearance(self.tip()).unwrap();
+        self.answered(clearance)
     }
 
     /// One step: it asks the solid at its tip, and then it has settled or marches on. A solid of too

@@ -14,7 +14,7 @@ pub const LEAST_PART: i32 = -16384;
 pub const MOST_PART: i32 = 16383;
 
 /// The sides of a picture, in pixels, and how far its rays go.
-pub const MOST_PIXELS: i32 = 64;
+pub const MOST_SIDE: i32 = 64;
 
 pub const MOST_FAR: i32 = 4095;
 
@@ -69,8 +69,8 @@ fn ways(n: ViewNumbers) -> Result<(Direction, Direction, Direction), ViewFault>
 fn sizes(n: ViewNumbers) -> Result<(u32, u32, u32), ViewFault>
     ensures { result ≡ sizes_answer n }
 {
-    let width = count(n.width, 1, MOST_PIXELS, 7)?;
-    let height = count(n.height, 1, MOST_PIXELS, 8)?;
+    let width = count(n.width, 1, MOST_SIDE, 7)?;
+    let height = count(n.height, 1, MOST_SIDE, 8)?;
     let far = count(n.far, 0, MOST_FAR, 9)?;
     Ok((width, height, far))
 }

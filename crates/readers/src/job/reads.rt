@@ -10,7 +10,7 @@ use geometry::ordered;
 use layers::{OFFSET_MOST, THICKEN_LEAST, THICKEN_MOST};
 use leaves::fault::{LEAST_COORDINATE, MOST_COORDINATE};
 use march::view::ViewNumbers;
-use march::view::checks::{LEAST_PART, MOST_FAR, MOST_PART, MOST_PIXELS};
+use march::view::checks::{LEAST_PART, MOST_FAR, MOST_PART, MOST_SIDE};
 use words::fault::WordFault;
 use words::kind::Kind;
 use words::reader::Reader;
@@ -28,8 +28,8 @@ fn view(from: &mut Reader<'_>) -> Result<ViewNumbers, WordFault>
         ray: ahead.row()?,
         across: ahead.row()?,
         down: ahead.row()?,
-        width: ahead.number_in(1, MOST_PIXELS)?,
-        height: ahead.number_in(1, MOST_PIXELS)?,
+        width: ahead.number_in(1, MOST_SIDE)?,
+        height: ahead.number_in(1, MOST_SIDE)?,
         far: ahead.number_in(0, MOST_FAR)?,
     };
     *from = ahead;

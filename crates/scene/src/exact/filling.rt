@@ -22,7 +22,7 @@ impl ExactScene {
 
     /// Becomes that scene where it is exact. Another is refused with 15, and this one stays what it
     /// was.
-    // It writes where the caller keeps a scene, as C lends it; a `TryFrom` would hand out a copy.
+    // It writes where the caller keeps a scene, which holds its table; a `TryFrom` would hand out a copy.
     pub fn fill(&mut self, scene: &Scene) -> Result<(), ExactFault>
         ensures value { (result, exact_scene_body self.new) ≡ filled_exact (scene_body scene.now) (exact_scene_body self.old) }
         ensures same { OnErr result (self.new ≡ self.old) }

@@ -56,7 +56,8 @@ impl<'a> Reader<'a> {
         Ok(u32::from_le_bytes(*bytes))
     }
 
-    /// The word that is due, of a kind from least to most: its kind, and its other 28 bits.
+    /// The word that is due, of a kind from least to most: its kind, and its other 28 bits. Any two
+    /// numbers may be asked for, also those of no kind.
     #[tactic(auto, unfolding(crate::specs::Reading::kind_at, crate::specs::Reading::word_at))]
     pub fn word(&mut self, least: u32, most: u32) -> Result<(u32, u32), WordFault>
         ensures value { result ≡ kind_at (text self.old) (place self.old) least most }

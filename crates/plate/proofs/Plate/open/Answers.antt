@@ -1,4 +1,4 @@
-use Rattle.std.proofs.Common.{◌++◌, drop, replicate, ap, ◌∙◌, arith}
+use Rattle.std.proofs.Common.{◌++◌, drop, replicate, ap, ◌∙◌, length-take-le, arith}
 use Rattle.march.specs.March.{fresh}
 use Rattle.plate_log.specs.Log.{area}
 use Rattle.plate_log.proofs.Upshot.{whole}
@@ -14,14 +14,18 @@ returns-then-n-self-clause-whole c = whole
 pub invariant_of-self : goal.invariant_of-self
 invariant_of-self c =
     let v = c.in_ok-view.view in
+    let n = c.pixels-n.result in
     let rs = c.args.self.now.records.now in
-    let is = c.renew.ensures ∙ ap (λ n. replicate n fresh ++ drop n rs) c.pixels-n.ensures in
-    record { room = new_room (area v) c.renew.new.records rs (omega (arith, c.pixels-n.ensures)) is; sound = new_sound v.far (area v) c.renew.new.records rs is }
+    let now = c.renew.new.pixels ++ drop n rs in
+    let is = ap (λ ps. ps ++ drop n rs) (c.renew.ensures ∙ ap (λ k. replicate k fresh) (length-take-le n rs (omega arith))) ∙ ap (λ k. replicate k fresh ++ drop k rs) c.pixels-n.ensures in
+    record { room = new_room (area v) now rs (omega (arith, c.pixels-n.ensures)) is; sound = new_sound v.far (area v) now rs is }
 
 pub returns-clause-begins : goal.returns-clause-begins
 returns-clause-begins c =
+    let n = c.pixels-n.result in
     let rs = c.args.self.now.records.now in
-    new_front (area c.in_ok-view.view) c.renew.new.records rs (c.renew.ensures ∙ ap (λ n. replicate n fresh ++ drop n rs) c.pixels-n.ensures)
+    let is = ap (λ ps. ps ++ drop n rs) (c.renew.ensures ∙ ap (λ k. replicate k fresh) (length-take-le n rs (omega arith))) ∙ ap (λ k. replicate k fresh ++ drop k rs) c.pixels-n.ensures in
+    new_front (area c.in_ok-view.view) (c.renew.new.pixels ++ drop n rs) rs is
 
 pub returns-clause-whole : goal.returns-clause-whole
 returns-clause-whole c = whole

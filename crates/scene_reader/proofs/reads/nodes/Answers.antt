@@ -5,12 +5,6 @@ use Rattle.scene_reader.specs.Scenes.{node_at}
 use Rattle.scene_reader.proofs.Turns.{at_end, stop, go_on, start}
 use Rattle.scene_reader.proofs.reads.nodes.Goals as goal
 
-pub loop-from-init : goal.loop-from-init
-loop-from-init c =
-    let f = ap (λ x. x.0) c.requires.fresh in
-    let h = c.requires.here in
-    (start (text c.args.from.now) c.args.count (place c.args.from.now) (state c.args.draft.now) c.requires.fresh h, search rules, omega arith, omega arith)
-
 pub loop-from-preserved : goal.loop-from-preserved
 loop-from-preserved c =
     let bs = text c.args.from.now in
