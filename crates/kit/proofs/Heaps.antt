@@ -1,12 +1,11 @@
 -- The pile of a model: what it is a pile of, and how the code's solids mean it.
-use Rattle.std.proofs.Common.{◌≡◌, ℕ, zero, suc, ◌*◌, ◌≤◌, Bool, true, false, ◌||◌, eqb, leb, List, length, take, ℤ, pos, negsuc, nat_abs, Ok, Result, sym, refl, ap, ◌∙◌, subst, arith, lit≤, w32, to_z}
+use Rattle.std.proofs.Common.{◌≡◌, ℕ, zero, suc, ◌*◌, ◌≤◌, Bool, true, false, ◌||◌, eqb, leb, List, length, take, ℤ, pos, Ok, Result, sym, refl, ap, ◌∙◌, subst, arith, lit≤, w32, to_z}
 use Rattle.std.specs.Result.{result_map_both}
 use Rattle.std.proofs.lemmas.Int.{ints, to_z_pos}
 use Rattle.std.proofs.lemmas.Bool.Decides.{nat_tests}
 use Rattle.std.proofs.lemmas.List.{take_all}
 use Rattle.std.proofs.lemmas.Bool.{le-leb, ne_eqb}
-use Rattle.lattice.specs.Space.{In, norm}
-use Rattle.lattice.specs.declared.Point.{Point}
+use Rattle.lattice.specs.Space.{norm}
 use Rattle.solid.specs.Body.{Body, Lawful}
 use Rattle.geometry.specs.Leaves.{block, surface}
 use Rattle.geometry.specs.Layers.{thicken}

@@ -80,7 +80,11 @@ impl Desk<'_> {
         ensures lender { SameLoans self.old self.new }
     {
         let moved = Shift::new(sheet, job.shift).unwrap();
-        let pile = Cap::new(Meet::new(job.clip, Unite::new(moved, scene)), LONGEST_STRIDE).unwrap();
+        let pile = Cap::new(
+            Meet::new(job.clip, Unite::new(moved, scene)),
+            LONGEST_STRIDE,
+        )
+        .unwrap();
         if Deep::of(&pile).is_none() {
             return Err(InputFault::Shallow);
         }

@@ -36,6 +36,10 @@ unwrap-moved-requires g c =
 pub unwrap-pile-requires : goal.unwrap-pile-requires
 unwrap-pile-requires g c = sym (ok_mapped _ _ c.new-4.result) ∙ ap is_ok c.new-4.ensures
 
+pub picture-requires-clause-deep : goal.picture-requires-clause-deep
+picture-requires-clause-deep g c =
+    held c.of.result _ _ (c.is_none.ensures ∙ ap not c.if-is_none.false) c.of.ensures (λ deep e. let P : Cap (Below g.row.T.Denot g.row.S.Denot) → Type 0 = λ x. 32767 ≤ (capped x.most (below_body g.T.Solid.body g.S.Solid.body x.below)).reach in subst P e deep.far_enough)
+
 pub returns-then-is_none : goal.returns-then-is_none
 returns-then-is_none g c =
     let j = c.args.job.now in
