@@ -1,10 +1,7 @@
 -- The pile of a model: what it is a pile of, and how the code's solids mean it.
-use Rattle.std.proofs.Common.{◌≡◌, ℕ, zero, suc, ◌*◌, ◌≤◌, Bool, true, false, ◌||◌, eqb, leb, List, length, take, ℤ, pos, Ok, Result, sym, refl, ap, ◌∙◌, subst, arith, lit≤, w32, to_z}
-use Rattle.std.specs.Result.{result_map_both}
-use Rattle.std.proofs.lemmas.Int.{ints, to_z_pos}
-use Rattle.std.proofs.lemmas.Bool.Decides.{nat_tests}
+use Rattle.std.proofs.Common.{◌≡◌, ℕ, zero, suc, ◌*◌, ◌≤◌, Bool, true, false, ◌||◌, eqb, List, length, take, ℤ, sym, refl, ap, ◌∙◌, subst, arith, lit≤}
 use Rattle.std.proofs.lemmas.List.{take_all}
-use Rattle.std.proofs.lemmas.Bool.{le-leb, ne_eqb}
+use Rattle.std.proofs.lemmas.Bool.{ne_eqb}
 use Rattle.lattice.specs.Space.{norm}
 use Rattle.solid.specs.Body.{Body, Lawful}
 use Rattle.geometry.specs.Leaves.{block, surface}
@@ -14,8 +11,6 @@ use Rattle.geometry.specs.Pile.Pile.{lawful, united, met, shifted, thickened, cu
 use Rattle.geometry.proofs.Boxes.{block_lawful}
 use Rattle.geometry.proofs.Surfaces.{surface_lawful}
 use Rattle.leaves.specs.declared.surface.Sheet.{Sheet}
-use Rattle.leaves.specs.declared.fault.SurfaceFault.{SurfaceFault}
-use Rattle.leaves.specs.Made.{sheet_made, is_side}
 use Rattle.readers.specs.declared.job.Job.{Job}
 use Rattle.readers.specs.declared.surface.SurfaceSize.{SurfaceSize}
 use Rattle.readers.specs.Jobs.{job_numbers}
