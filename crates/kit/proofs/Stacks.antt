@@ -1,31 +1,24 @@
 -- The layers of the pile, as the code makes them.
-use Rattle.std.proofs.Common.{◌≡◌, ℕ, ◌≤◌, true, leb, pos, negsuc, nat_abs, is_ok, Ok, Err, Result, sym, refl, ap, ◌∙◌, arith}
+use Rattle.std.proofs.Common.{◌≡◌, ℕ, ◌≤◌, true, leb, nat_abs, is_ok, Ok, Err, Result, sym, refl, ap, ◌∙◌, arith}
 use Rattle.std.specs.Result.{result_map_both}
 use Rattle.std.proofs.lemmas.Bool.{le-leb}
 use Rattle.lattice.specs.Space.{In, norm}
 use Rattle.lattice.specs.declared.Point.{Point}
 use Rattle.solid.specs.Body.{Body}
-use Rattle.geometry.specs.Leaves.{block, ordered}
+use Rattle.geometry.specs.Leaves.{block}
 use Rattle.geometry.specs.Layers.{unite, meet, shift, capped}
 use Rattle.leaves.specs.declared.axis_box.AxisBox.{AxisBox}
-use Rattle.leaves.specs.declared.fault.LeafFault.{LeafFault}
-use Rattle.leaves.specs.Made.{box_made}
 use Rattle.layers.specs.declared.Meet.{Meet}
 use Rattle.layers.specs.declared.Unite.{Unite}
 use Rattle.layers.specs.declared.Shift.{Shift}
 use Rattle.layers.specs.declared.Cap.{Cap}
 use Rattle.layers.specs.declared.LayerFault.{LayerFault}
 use Rattle.layers.specs.Made.{offset_checked, shift_made, parts}
-use Rattle.words.specs.Reading.{point_in}
-use Rattle.scene_reader.proofs.Made.{point_made}
 use Rattle.kit.specs.Models.{stack}
 
 pub ok_mapped : {T U E D : Type 0} (f : T → U) (g : E → D) (r : Result T E) → is_ok (result_map_both f g r) ≡ is_ok r
 ok_mapped f g (Ok x) = refl
 ok_mapped f g (Err e) = refl
-
-pub box_stands : (lo hi : Point) → point_in (negsuc 16383) (pos 16383) lo ≡ true → point_in (negsuc 16383) (pos 16383) hi ≡ true → ordered lo hi ≡ true → box_made lo hi ≡ Ok (lo, hi)
-box_stands lo hi l h o = simp (point_made lo 1 l, point_made hi 4 h, o)
 
 pub offset_stands : (reach : ℕ) (v : Point) → In 16383 v → 16383 ≤ reach → offset_checked reach v ≡ Ok tt
 offset_stands reach v h l =
@@ -37,10 +30,6 @@ offset_stands reach v h l =
 
 pub shift_stands : {A : Type 0} (reach : ℕ) (v : Point) (made : A) → In 16383 v → 16383 ≤ reach → shift_made reach v made ≡ Ok made
 shift_stands reach v made h l = ap (result_map_both (λ _. made) (λ e. e)) (offset_stands reach v h l)
-
--- the box that was unwrapped
-pub corners : (r : Result AxisBox LeafFault) (b : AxisBox) (lo hi : Point) → r ≡ Ok b → result_map_both {U = Point × Point} (λ (b : AxisBox). (b.lo, b.hi)) (λ e. e) r ≡ Ok (lo, hi) → ◌≡◌ {A = Point × Point} (b.lo, b.hi) (lo, hi)
-corners r b lo hi e f = let z : ◌≡◌ {A = Result (Point × Point) LeafFault} (Ok (b.lo, b.hi)) (Ok (lo, hi)) = sym (ap (result_map_both {U = Point × Point} (λ (b : AxisBox). (b.lo, b.hi)) (λ e. e)) e) ∙ f in cc
 
 -- the cap that was unwrapped
 pub under : {A : Type 0} (r : Result (Cap A) LayerFault) (c : Cap A) (below : A) → r ≡ Ok c → result_map_both (λ (c : Cap A). parts c.below c.most) (λ e. e) r ≡ Ok (parts below 64) → ◌≡◌ {A = A × ℕ} (c.below, c.most) (below, 64)
@@ -57,13 +46,11 @@ abbrev pub below_body : {T S : Type 0} → (T → Body) → (S → Body) → Bel
 below_body t s m = meet (block m.left.lo m.left.hi) (unite (shift m.right.left.by (t m.right.left.below)) (s m.right.right))
 
 module _ {T S : Type 0} (t : T → Body) (s : S → Body) where
-  pub stacked : (c : Cap (Below T S)) (m : Below T S) (u : Unite (Shift T) S) (box : AxisBox) (moved : Shift T) (sheet : T) (scene : S) (lo hi v : Point)
+  pub stacked : (c : Cap (Below T S)) (m : Below T S) (u : Unite (Shift T) S) (box : AxisBox) (moved : Shift T) (sheet : T) (scene : S) (v : Point)
       → ◌≡◌ {A = Below T S × ℕ} (c.below, c.most) (m, 64) → m ≡ record { left = box; right = u } → u ≡ record { left = moved; right = scene } → moved ≡ record { below = sheet; by = v }
-      → ◌≡◌ {A = Point × Point} (box.lo, box.hi) (lo, hi)
-      → capped c.most (below_body t s c.below) ≡ stack lo hi v (t sheet) (s scene)
-  stacked c m u box moved sheet scene lo hi v e f g h k =
+      → capped c.most (below_body t s c.below) ≡ stack box.lo box.hi v (t sheet) (s scene)
+  stacked c m u box moved sheet scene v e f g h =
       ap (λ (x : Below T S × ℕ). capped x.1 (below_body t s x.0)) e
       ∙ ap (λ (x : Below T S). capped 64 (below_body t s x)) f
       ∙ ap (λ (x : Unite (Shift T) S). capped 64 (meet (block box.lo box.hi) (unite (shift x.left.by (t x.left.below)) (s x.right)))) g
       ∙ ap (λ (x : Shift T). capped 64 (meet (block box.lo box.hi) (unite (shift x.by (t x.below)) (s scene)))) h
-      ∙ ap (λ (x : Point × Point). capped 64 (meet (block x.0 x.1) (unite (shift v (t sheet)) (s scene)))) k

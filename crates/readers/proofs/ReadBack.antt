@@ -107,20 +107,20 @@ module _ (j : Job) (rest : List ℕ) where
       let f = number_in_back (job_words j) rest 9 (pos 0) (pos 4095) j.view.far (lit< tt) refl (refl, refl) s.far in
       simp (o, a, b, c, d, e, f)
 
-  pile_back : pile_at bytes ≡ Ok (pos j.guard, j.shift, j.lo, j.hi)
+  pile_back : pile_at bytes ≡ Ok (pos j.guard, j.shift, j.clip.lo, j.clip.hi)
   unfolding pile_at bytes
   pile_back =
       let l = j.slight in
       let g : in_range (pos 0) (pos 1023) (pos j.guard) ≡ true = grind (arith, ints, nat_tests) in
       let a = number_in_back (job_words j) rest 10 (pos 0) (pos 1023) (pos j.guard) (lit< tt) refl (refl, refl) g in
       let b = point_back (job_words j) rest 11 (negsuc 16382) (pos 16383) j.shift (lit< tt) refl refl refl (refl, refl) (offset_in j.shift j.near) in
-      let c = point_back (job_words j) rest 14 (negsuc 16383) (pos 16383) j.lo (lit< tt) refl refl refl (refl, refl) j.low in
-      let d = point_back (job_words j) rest 17 (negsuc 16383) (pos 16383) j.hi (lit< tt) refl refl refl (refl, refl) j.high in
+      let c = point_back (job_words j) rest 14 (negsuc 16383) (pos 16383) j.clip.lo (lit< tt) refl refl refl (refl, refl) j.low in
+      let d = point_back (job_words j) rest 17 (negsuc 16383) (pos 16383) j.clip.hi (lit< tt) refl refl refl (refl, refl) j.high in
       simp (a, b, c, d)
 
   job_back : job_of bytes ≡ Ok (job_numbers j)
   unfolding job_of bytes
-  job_back = let s = bare_back (job_words j) rest 0 (lit< tt) 13 13 13 refl (lit< tt) (lit≤ tt) (lit≤ tt) in simp (s, view_back, pile_back, j.upright)
+  job_back = let s = bare_back (job_words j) rest 0 (lit< tt) 13 13 13 refl (lit< tt) (lit≤ tt) (lit≤ tt) in simp (s, view_back, pile_back, j.clip.upright)
 
 pub jobs_back : JobsReadBack
 unfolding bytes

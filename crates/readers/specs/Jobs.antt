@@ -19,7 +19,7 @@ pub record JobNumbers : Type 0 where
   pub hi : Point
 
 abbrev pub job_numbers : Job → JobNumbers
-job_numbers j = record { view = j.view; guard = j.guard; shift = j.shift; lo = j.lo; hi = j.hi }
+job_numbers j = record { view = j.view; guard = j.guard; shift = j.shift; lo = j.clip.lo; hi = j.clip.hi }
 
 abbrev pub numbers_in : Result Job JobFault → Result JobNumbers JobFault
 numbers_in = result_map_both job_numbers (λ e. e)

@@ -12,7 +12,7 @@ parts p ns = p.x ∷ p.y ∷ p.z ∷ ns
 
 -- the nineteen numbers, in their order
 abbrev pub listed : Job → List ℤ
-listed j = view_listed j.view (pos j.guard ∷ parts j.shift (parts j.lo (parts j.hi [])))
+listed j = view_listed j.view (pos j.guard ∷ parts j.shift (parts j.clip.lo (parts j.clip.hi [])))
   where
     view_listed : ViewNumbers → List ℤ → List ℤ
     view_listed v ns = parts v.origin (v.ray ∷ v.across ∷ v.down ∷ v.width ∷ v.height ∷ v.far ∷ ns)

@@ -4,10 +4,10 @@ ghost use Rattle.lattice.specs.Space.{In};
 ghost use Rattle.march.specs.Checks.{view_answer};
 ghost use Rattle.words.specs.Reading.{point_in};
 ghost use Rattle.readers.specs.JobTold.{job_told};
-ghost use Rattle.geometry.specs.Leaves.{ordered};
 ghost use Rattle.readers.specs.declared.job.JobFault.TheVariants.{Word};
 
 use lattice::Point;
+use leaves::axis_box::AxisBox;
 use march::view::ViewNumbers;
 use refusal::{Refusal, Rule};
 use words::fault::WordFault;
@@ -22,15 +22,14 @@ pub struct Job {
     pub guard: u32,
     /// The offset of the surface.
     pub shift: Point,
-    /// The corners of the clip box.
-    pub lo: Point,
-    pub hi: Point,
+    /// The box that the pile is cut to. Its corners lie in the range of a file's coordinates, which ends
+    /// one below 16384, the most that a box allows.
+    pub clip: AxisBox,
     ghost seen: { is_ok (view_answer view) ≡ true },
     ghost slight: { guard ≤ 1023 },
     ghost near: { In 16383 shift },
-    ghost low: { point_in (negsuc 16383) (pos 16383) lo ≡ true },
-    ghost high: { point_in (negsuc 16383) (pos 16383) hi ≡ true },
-    ghost upright: { ordered lo hi ≡ true },
+    ghost low: { point_in (negsuc 16383) (pos 16383) clip.lo ≡ true },
+    ghost high: { point_in (negsuc 16383) (pos 16383) clip.hi ≡ true },
 }
 
 /// Why a job is refused.

@@ -18,7 +18,6 @@ use super::Desk;
 use crate::fault::InputFault;
 use crate::read_parts;
 use layers::{Cap, Meet, Shift, Thicken, Unite};
-use leaves::axis_box::AxisBox;
 use leaves::surface::{Sheet, Surface};
 use march::deep::Deep;
 use march::view::ViewNumbers;
@@ -76,13 +75,13 @@ impl Desk<'_> {
         job: &Job,
     ) -> Result<usize, InputFault>
         requires far { 16383 ≤ (T.Solid.body sheet).reach }
-        ensures value { (result, self.new.records.now, self.new.out.now) ≡ over (stack job.now.lo job.now.hi job.now.shift (T.Solid.body sheet) (S.Solid.body scene)) job.now.view self.old.records.now self.old.out.now }
-        ensures shows { OnOk result ((M : Place → Bool) → Piled M (stack job.now.lo job.now.hi job.now.shift (T.Solid.body sheet) (S.Solid.body scene)) → Shows (plain_of job.now.view) M self.new.out.now) }
+        ensures value { (result, self.new.records.now, self.new.out.now) ≡ over (stack job.now.clip.lo job.now.clip.hi job.now.shift (T.Solid.body sheet) (S.Solid.body scene)) job.now.view self.old.records.now self.old.out.now }
+        ensures shows { OnOk result ((M : Place → Bool) → Piled M (stack job.now.clip.lo job.now.clip.hi job.now.shift (T.Solid.body sheet) (S.Solid.body scene)) → Shows (plain_of job.now.view) M self.new.out.now) }
         ensures lender { SameLoans self.old self.new }
     {
-        let clip = AxisBox::new(job.lo, job.hi).unwrap();
         let moved = Shift::new(sheet, job.shift).unwrap();
-        let pile = Cap::new(Meet::new(clip, Unite::new(moved, scene)), LONGEST_STRIDE).unwrap();
+        let clipped = Meet::new(job.clip, Unite::new(moved, scene));
+        let pile = Cap::new(clipped, LONGEST_STRIDE).unwrap();
         if Deep::of(&pile).is_none() {
             return Err(InputFault::Shallow);
         }
@@ -107,7 +106,10 @@ impl Desk<'_> {
         if !may_be_guarded(scene, job.guard) {
             return Err(InputFault::Inexact);
         }
-        let sheet = Sheet::check(size.width as i32, size.depth as i32, heights).unwrap();
+        let sheet = Sheet {
+            width: size.width,
+            depth: size.depth,
+        };
         let surface = Surface::new(sheet, heights);
         // The guard is no Option: it is the job's own number, in which 0 leaves the layer out.
         if job.guard == 0 {

@@ -8,6 +8,7 @@ ghost use Rattle.readers.specs.JobsBack.{JobsReadBack};
 use super::{Job, JobFault};
 use geometry::ordered;
 use layers::{OFFSET_MOST, THICKEN_LEAST, THICKEN_MOST};
+use leaves::axis_box::AxisBox;
 use leaves::fault::{LEAST_COORDINATE, MOST_COORDINATE};
 use march::view::ViewNumbers;
 use march::view::checks::{LEAST_PART, MOST_FAR, MOST_PART, MOST_SIDE};
@@ -61,7 +62,6 @@ pub fn read_job(from: &mut Reader<'_>) -> Result<Job, JobFault>
         view,
         guard: guard.unsigned_abs(),
         shift,
-        lo,
-        hi,
+        clip: AxisBox { lo, hi },
     })
 }
