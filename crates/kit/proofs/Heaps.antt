@@ -1,12 +1,8 @@
 -- The pile of a model: what it is a pile of, and how the code's solids mean it.
-use Rattle.std.proofs.Common.{◌≡◌, ℕ, zero, suc, ◌*◌, ◌≤◌, Bool, true, false, ◌||◌, eqb, leb, List, length, take, ℤ, pos, negsuc, nat_abs, Ok, Result, sym, refl, ap, ◌∙◌, subst, arith, lit≤, w32, to_z}
-use Rattle.std.specs.Result.{result_map_both}
-use Rattle.std.proofs.lemmas.Int.{ints, to_z_pos}
-use Rattle.std.proofs.lemmas.Bool.Decides.{nat_tests}
+use Rattle.std.proofs.Common.{◌≡◌, ℕ, zero, suc, ◌*◌, ◌≤◌, Bool, true, false, ◌||◌, eqb, List, length, take, ℤ, sym, refl, ap, ◌∙◌, subst, arith, lit≤}
 use Rattle.std.proofs.lemmas.List.{take_all}
-use Rattle.std.proofs.lemmas.Bool.{le-leb, ne_eqb}
-use Rattle.lattice.specs.Space.{In, norm}
-use Rattle.lattice.specs.declared.Point.{Point}
+use Rattle.std.proofs.lemmas.Bool.{ne_eqb}
+use Rattle.lattice.specs.Space.{norm}
 use Rattle.solid.specs.Body.{Body, Lawful}
 use Rattle.geometry.specs.Leaves.{block, surface}
 use Rattle.geometry.specs.Layers.{thicken}
@@ -15,8 +11,6 @@ use Rattle.geometry.specs.Pile.Pile.{lawful, united, met, shifted, thickened, cu
 use Rattle.geometry.proofs.Boxes.{block_lawful}
 use Rattle.geometry.proofs.Surfaces.{surface_lawful}
 use Rattle.leaves.specs.declared.surface.Sheet.{Sheet}
-use Rattle.leaves.specs.declared.fault.SurfaceFault.{SurfaceFault}
-use Rattle.leaves.specs.Made.{sheet_made, is_side}
 use Rattle.readers.specs.declared.job.Job.{Job}
 use Rattle.readers.specs.declared.surface.SurfaceSize.{SurfaceSize}
 use Rattle.readers.specs.Jobs.{job_numbers}
@@ -40,22 +34,6 @@ model_piled j s size hs l x =
     let near : norm j.shift ≤ 1048576 = omega (arith, j.near.0, j.near.1, j.near.2) in
     let sheet = shifted j.shift j.near near (lawful (surface size.width size.depth (take n hs)) (surface_lawful size.width size.depth (take n hs))) in
     (members (model_of (job_numbers j) s size hs), false, cut 64 (lit≤ tt) (lit≤ tt) (met clip (united sheet g.1)), λ p. refl)
-
--- a sheet is made of sizes that were checked
-pub sheet_stands : (w d n : ℕ) → (1 ≤ w) × (w ≤ 64) × (1 ≤ d) × (d ≤ 64) → n ≡ w * d → sheet_made (to_z w32 w) (to_z w32 d) n ≡ Ok (w, d)
-sheet_stands w d n h e =
-    let x : to_z w32 w ≡ pos w = to_z_pos w32 w (omega arith) in
-    let y : to_z w32 d ≡ pos d = to_z_pos w32 d (omega arith) in
-    ap (λ (z : ℤ). sheet_made z (to_z w32 d) n) x ∙ ap (λ (z : ℤ). sheet_made (pos w) z n) y ∙ made
-  where
-    side : (k : ℕ) → 1 ≤ k → k ≤ 64 → is_side (pos k) ≡ true
-    side k a b = grind (arith, ints, nat_tests)
-
-    made : sheet_made (pos w) (pos d) n ≡ Ok (w, d)
-    made = let a = side w h.0 h.1 in let b = side d h.2 h.3 in let c : leb (w * d) n ≡ true = le-leb (w * d) n (omega arith) in simp (a, b, c)
-
-pub sides : (r : Result Sheet SurfaceFault) (s : Sheet) (w d : ℕ) → r ≡ Ok s → result_map_both {U = ℕ × ℕ} (λ (s : Sheet). (s.width, s.depth)) (λ e. e) r ≡ Ok (w, d) → ◌≡◌ {A = ℕ × ℕ} (s.width, s.depth) (w, d)
-sides r s w d e f = let z : ◌≡◌ {A = Result (ℕ × ℕ) SurfaceFault} (Ok (s.width, s.depth)) (Ok (w, d)) = sym (ap (result_map_both {U = ℕ × ℕ} (λ (s : Sheet). (s.width, s.depth)) (λ e. e)) e) ∙ f in cc
 
 -- what the code piles up is the pile of the model
 pub heap_is : (j : Job) (s t : Body) (size : SurfaceSize) (hs ks : List ℤ) (made sheet : Sheet) → length hs ≡ size.width * size.depth → ◌≡◌ {A = ℕ × ℕ} (made.width, made.depth) (size.width, size.depth) → sheet ≡ made → ks ≡ hs → t ≡ guarded j.guard s

@@ -80,7 +80,8 @@ impl Desk<'_> {
         ensures lender { SameLoans self.old self.new }
     {
         let moved = Shift::new(sheet, job.shift).unwrap();
-        let pile = Cap::new(Meet::new(job.clip, Unite::new(moved, scene)), LONGEST_STRIDE).unwrap();
+        let clipped = Meet::new(job.clip, Unite::new(moved, scene));
+        let pile = Cap::new(clipped, LONGEST_STRIDE).unwrap();
         if Deep::of(&pile).is_none() {
             return Err(InputFault::Shallow);
         }
@@ -105,7 +106,10 @@ impl Desk<'_> {
         if !may_be_guarded(scene, job.guard) {
             return Err(InputFault::Inexact);
         }
-        let sheet = Sheet::check(size.width as i32, size.depth as i32, heights).unwrap();
+        let sheet = Sheet {
+            width: size.width,
+            depth: size.depth,
+        };
         let surface = Surface::new(sheet, heights);
         // The guard is no Option: it is the job's own number, in which 0 leaves the layer out.
         if job.guard == 0 {

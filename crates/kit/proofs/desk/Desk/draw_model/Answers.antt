@@ -1,4 +1,4 @@
-use Rattle.std.proofs.Common.{◌≡◌, ℕ, Bool, List, IfOk, Ok, Err, Result, sym, ap, ◌∙◌}
+use Rattle.std.proofs.Common.{◌≡◌, ℕ, Bool, List, IfOk, Ok, Err, Result, refl, sym, ap, ◌∙◌}
 use mathlib.Core.Path.{subst⁻¹}
 use Rattle.lattice.specs.declared.Point.{Point}
 use Rattle.solid.specs.Body.{Body}
@@ -11,7 +11,7 @@ use Rattle.kit.specs.Models.{members}
 use Rattle.kit.specs.Render.{plain_of}
 use Rattle.kit.specs.Laws.{Shows}
 use Rattle.kit.specs.Steps.{model_of, over}
-use Rattle.kit.proofs.Heaps.{model_piled, sheet_stands, sides, heap_is, unguarded, on_guard, must_be_exact}
+use Rattle.kit.proofs.Heaps.{model_piled, heap_is, unguarded, on_guard, must_be_exact}
 use Rattle.kit.proofs.Wholes.{over_whole}
 use Rattle.kit.proofs.desk.Desk.draw_model.Goals as goal
 
@@ -29,8 +29,7 @@ returns-then-job-eq0 c =
     let hs = c.args.heights.now in
     let m = model_of (job_numbers j) s size hs in
     let may = sym c.may_be_guarded.ensures ∙ c.if-not-may_be_guarded.false in
-    let is = heap_is j s s size hs c.new-surface.result.heights.now c.unwrap-sheet.result c.new-surface.result.sheet c.requires.heights
-    (sides c.check.result c.unwrap-sheet.result size.width size.depth c.unwrap-sheet.ensures (c.check.ensures ∙ sheet_stands size.width size.depth _ c.requires.sides c.requires.heights))
+    let is = heap_is j s s size hs c.new-surface.result.heights.now _ c.new-surface.result.sheet c.requires.heights refl
     c.new-surface.ensures.sheet c.new-surface.ensures.heights (unguarded j.guard s c.if-job-eq0.true) in
     record {
       value = c.pile_up.ensures.value ∙ ap (λ (b : Body). over b j.view c.args.self.now.records.now c.args.self.now.out.now) is ∙ over_whole m c.args.self.now.records.now c.args.self.now.out.now may;
@@ -49,8 +48,7 @@ returns c =
     let hs = c.args.heights.now in
     let m = model_of (job_numbers j) s size hs in
     let may = sym c.may_be_guarded.ensures ∙ c.if-not-may_be_guarded.false in
-    let is = heap_is j s _ size hs c.new-surface.result.heights.now c.unwrap-sheet.result c.new-surface.result.sheet c.requires.heights
-    (sides c.check.result c.unwrap-sheet.result size.width size.depth c.unwrap-sheet.ensures (c.check.ensures ∙ sheet_stands size.width size.depth _ c.requires.sides c.requires.heights))
+    let is = heap_is j s _ size hs c.new-surface.result.heights.now _ c.new-surface.result.sheet c.requires.heights refl
     c.new-surface.ensures.sheet c.new-surface.ensures.heights (c.thickened-thick.ensures ∙ on_guard j.guard s c.if-job-eq0.false) in
     record {
       value = c.pile_up-2.ensures.value ∙ ap (λ (b : Body). over b j.view c.args.self.now.records.now c.args.self.now.out.now) is ∙ over_whole m c.args.self.now.records.now c.args.self.now.out.now may;

@@ -34,23 +34,27 @@ unwrap-moved-requires g c =
     ap is_ok (c.new.ensures ∙ shift_stands (g.T.Solid.body c.args.sheet).reach j.shift _ j.near c.requires.far)
 
 pub unwrap-pile-requires : goal.unwrap-pile-requires
-unwrap-pile-requires g c = sym (ok_mapped _ _ c.new-4.result) ∙ ap is_ok c.new-4.ensures
+unwrap-pile-requires g c = sym (ok_mapped _ _ c.new-3.result) ∙ ap is_ok c.new-3.ensures
+
+pub picture-requires-clause-deep : goal.picture-requires-clause-deep
+picture-requires-clause-deep g c =
+    held c.of.result _ _ (c.is_none.ensures ∙ ap not c.if-is_none.false) c.of.ensures (λ deep e. let P : Cap (Below g.row.T.Denot g.row.S.Denot) → Type 0 = λ x. 32767 ≤ (capped x.most (below_body g.T.Solid.body g.S.Solid.body x.below)).reach in subst P e deep.far_enough)
 
 pub returns-then-is_none : goal.returns-then-is_none
 returns-then-is_none g c =
     let j = c.args.job.now in
-    let same = stacked g.T.Solid.body g.S.Solid.body c.unwrap-pile.result c.new-3.result c.new-2.result c.args.job.now.clip c.unwrap-moved.result c.args.sheet c.args.scene j.shift
-    (under c.new-4.result c.unwrap-pile.result c.new-3.result c.unwrap-pile.ensures c.new-4.ensures)
-    c.new-3.ensures c.new-2.ensures
+    let same = stacked g.T.Solid.body g.S.Solid.body c.unwrap-pile.result c.new-clipped.result c.new-2.result c.args.job.now.clip c.unwrap-moved.result c.args.sheet c.args.scene j.shift
+    (under c.new-3.result c.unwrap-pile.result c.new-clipped.result c.unwrap-pile.ensures c.new-3.ensures)
+    c.new-clipped.ensures c.new-2.ensures
     (unwrapped c.new.result _ _ c.unwrap-moved.ensures (c.new.ensures ∙ shift_stands (g.T.Solid.body c.args.sheet).reach j.shift _ j.near c.requires.far)) in
     record { value = too_shallow _ j.view c.args.self.now.records.now c.args.self.now.out.now (subst (λ (b : Body). b.reach < 32767) same (search rules)); shows = tt; lender = (refl, refl) }
 
 pub returns : goal.returns
 returns g c =
     let j = c.args.job.now in
-    let same = stacked g.T.Solid.body g.S.Solid.body c.unwrap-pile.result c.new-3.result c.new-2.result c.args.job.now.clip c.unwrap-moved.result c.args.sheet c.args.scene j.shift
-    (under c.new-4.result c.unwrap-pile.result c.new-3.result c.unwrap-pile.ensures c.new-4.ensures)
-    c.new-3.ensures c.new-2.ensures
+    let same = stacked g.T.Solid.body g.S.Solid.body c.unwrap-pile.result c.new-clipped.result c.new-2.result c.args.job.now.clip c.unwrap-moved.result c.args.sheet c.args.scene j.shift
+    (under c.new-3.result c.unwrap-pile.result c.new-clipped.result c.unwrap-pile.ensures c.new-3.ensures)
+    c.new-clipped.ensures c.new-2.ensures
     (unwrapped c.new.result _ _ c.unwrap-moved.ensures (c.new.ensures ∙ shift_stands (g.T.Solid.body c.args.sheet).reach j.shift _ j.near c.requires.far)) in
     record {
       value = deep_enough _ j.view c.args.self.now.records.now c.picture.new.self.records.now c.args.self.now.out.now c.picture.new.self.out.now c.picture.result
