@@ -124,6 +124,9 @@ fn nodes(from: &mut Reader<'_>, draft: &mut Draft, count: usize) -> Result<(), S
     Ok(())
 }
 
+// Each reads by a copy of the reader, which it stores back once all is accepted; a closure over the
+// copy would take as many lines.
+
 /// Reads the start word: how many words come after it.
 #[tactic(auto, unfolding(crate::specs::Scenes::count_of))]
 fn count(from: &mut Reader<'_>) -> Result<usize, SceneFault>

@@ -16,6 +16,9 @@ use words::fault::WordFault;
 use words::kind::Kind;
 use words::reader::Reader;
 
+// Each reads by a copy of the reader, which it stores back once all is accepted; a closure over the
+// copy would take as many lines.
+
 /// Reads the numbers of the view.
 #[tactic(auto, unfolding(crate::specs::Jobs::view_at, crate::specs::Jobs::rows_at, crate::specs::Jobs::sizes_at))]
 fn view(from: &mut Reader<'_>) -> Result<ViewNumbers, WordFault>
