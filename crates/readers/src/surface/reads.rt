@@ -24,8 +24,8 @@ fn is_side(n: u32) -> bool
     (1..=MOST_COLUMNS).contains(&n)
 }
 
-// Each reads by a copy of the reader, which it stores back once all is accepted; a closure over the
-// copy would take as many lines.
+// `size` and `read_surface` read by a copy of the reader, which they store back once all is accepted; a
+// closure over the copy would take as many lines.
 
 /// Reads the start word.
 #[tactic(auto, using(crate::proofs::Sheets::few), unfolding(crate::specs::Surfaces::size_of))]
