@@ -142,6 +142,7 @@ pub fn cases() -> Vec<Case> {
     long.scene = shifted(64, 64);
     refuse("a reach of 0", long.bytes(), (4, 16, 0));
     refuse("a reach of 32,766", scene(shifted(62, 64)), (4, 16, 0));
+    refuse("63 shifts of 16,383", scene(shifted(62, 16_383)), (4, 16, 0));
     long.scene = and(and(long.scene, ball()), Piece::meet());
     refuse("a guard before a reach", long.bytes(), (4, 15, 0));
 

@@ -52,6 +52,7 @@ module _ (v : View) (a b : Body) (m n i j : ℕ) where
       → Picture v a b m n i j q
   pictured r0 r1 r2 s t q la lb new l1 l2 p1 p2 l3 = record {
     within = is.0;
+    is = same;
     ended = λ h. subst⁻¹ (λ (r : Pixel). marches r ≡ false) same (none_marching (stands v both) (place v i j) (held.ends (subst⁻¹ (λ (k : ℕ). area v * (v.far + 1) ≤ k) given h)));
     shows = λ M sa sb. subst⁻¹ (Shows v M i j) same ((held.shown M (told_all M sa sb)).shows i j is.0);
     fewest = λ M sa sb settled r lr deep sr under k takes.

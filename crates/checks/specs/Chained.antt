@@ -1,5 +1,5 @@
 -- Two sweeps, m probes over a body a and then n over a body b: when they are refused, and what a pixel says that was read after them.
-use Rattle.std.specs.Prelude.{◌≡◌, ℕ, ◌+◌, ◌*◌, ◌≤◌, Bool, false, ◌&&◌, cond, Ok, Err, Result, nat_lt}
+use Rattle.std.specs.Prelude.{◌≡◌, ℕ, ◌+◌, ◌*◌, ◌≤◌, Bool, false, ◌&&◌, cond, [], ◌∷◌, Ok, Err, Result, nat_lt}
 use Rattle.std.specs.Result.{result_and, result_map_both}
 use Rattle.lattice.specs.declared.Point.{Point}
 use Rattle.lattice.specs.Space.{In}
@@ -11,7 +11,7 @@ use Rattle.march.specs.Checks.{PlainView}
 use Rattle.march.specs.March.{marches, probes, Takes}
 use Rattle.plate_log.specs.declared.fault.PlateFault.{PlateFault}
 use Rattle.plate_log.specs.declared.fault.PlateFault.TheVariants.{View as Number, TooFewRecords, NoPixel, Shallow}
-use Rattle.plate_log.specs.Log.{area, clear_at, deep}
+use Rattle.plate_log.specs.Log.{area, clear_at, deep, sweeping, pixel}
 use Rattle.plate_log.specs.Fair.{Inside}
 use Rattle.plate_log.specs.Law.{Same, Shows}
 
@@ -37,6 +37,8 @@ ends (Ok v) a b i j = result_and (sweeps a) (result_and (sweeps b) (reads v i j)
 
 pub record Picture (v : View) (a b : Body) (m n i j : ℕ) (q : Pixel) : Type 0 where
   pub within : Inside v i j
+  -- it is the pixel as the two sweeps leave it, in that order, after the opening
+  pub is : q ≡ pixel v (sweeping a m ∷ sweeping b n ∷ []) i j
   -- with budgets enough it has settled
   pub ended : area v * (v.far + 1) ≤ m + n → marches q ≡ false
   -- where both have the members M, it tells of them

@@ -10,6 +10,8 @@ mod logs;
 pub mod own_make;
 #[cfg(test)]
 mod reach;
+#[cfg(test)]
+mod views;
 
 /// How many worked numbers stand in the table.
 const ROWS: usize = 13;

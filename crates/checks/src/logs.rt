@@ -1,5 +1,6 @@
 //! Logs of a plate: other solids, budgets, refused calls and openings, in one order and another.
 use crate::own_make::Empty;
+use crate::views::straight_down;
 use lattice::Point;
 use leaves::axis_box::AxisBox;
 use march::pixel::Pixel;
@@ -8,28 +9,16 @@ use plate::Plate;
 use plate_log::fault::PlateFault;
 use std::test::Fail;
 
-fn at(x: i32, y: i32, z: i32) -> Point {
-    Point { x, y, z }
-}
-
 /// Straight down from height 100.
 fn view(width: i32, height: i32, far: i32) -> ViewNumbers {
-    ViewNumbers {
-        origin: at(0, 0, 100),
-        ray: 12,
-        across: 22,
-        down: 16,
-        width,
-        height,
-        far,
-    }
+    straight_down(Point::new(0, 0, 100), width, height, far)
 }
 
 const UNTOUCHED: Pixel = Pixel::Miss { probes: 9 };
 
 #[test]
 fn budgets_of_none_of_one_and_of_just_enough(rt: HostRuntime) -> Result<(), Fail> {
-    let stock = AxisBox::new(at(-1, -1, 0), at(1, 1, 0))?;
+    let stock = AxisBox::new(Point::new(-1, -1, 0), Point::new(1, 1, 0))?;
     let mut records = [UNTOUCHED; 3];
     let mut plate = Plate::new(&mut records);
     assert_eq!(rt; plate.sweep(&stock, 5), Ok((0, 0)));
@@ -53,7 +42,7 @@ fn budgets_of_none_of_one_and_of_just_enough(rt: HostRuntime) -> Result<(), Fail
 
 #[test]
 fn refused_calls_change_nothing(rt: HostRuntime) -> Result<(), Fail> {
-    let stock = AxisBox::new(at(-1, -1, 0), at(1, 1, 0))?;
+    let stock = AxisBox::new(Point::new(-1, -1, 0), Point::new(1, 1, 0))?;
     let mut records = [UNTOUCHED; 2];
     let mut plate = Plate::new(&mut records);
     assert_eq!(rt; plate.read(0, 0), Err(PlateFault::NoPixel));
@@ -92,8 +81,8 @@ fn refused_calls_change_nothing(rt: HostRuntime) -> Result<(), Fail> {
 
 #[test]
 fn another_solid_in_mid_work_and_opened_anew(rt: HostRuntime) -> Result<(), Fail> {
-    let clamp = AxisBox::new(at(0, 0, 50), at(0, 0, 60))?;
-    let stock = AxisBox::new(at(-1, -1, 0), at(1, 1, 0))?;
+    let clamp = AxisBox::new(Point::new(0, 0, 50), Point::new(0, 0, 60))?;
+    let stock = AxisBox::new(Point::new(-1, -1, 0), Point::new(1, 1, 0))?;
     let mut records = [UNTOUCHED; 4];
     let mut plate = Plate::new(&mut records);
     assert_eq!(rt; plate.open(view(2, 2, 100)), Ok(()));

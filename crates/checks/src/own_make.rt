@@ -3,7 +3,7 @@ ghost use Rattle.std.specs.Prelude.{◌≡◌, ◌≤◌, min};
 ghost use Rattle.checks.specs.Empty.{empty, empty_lawful};
 
 use lattice::Point;
-use solid::{QuestionFault, Solid, check_asked};
+use solid::{MOST_REACH, QuestionFault, Solid, check_asked};
 
 /// A solid without members: every point has clearance 1. Its reach is as it was told.
 #[derive(Clone, Copy)]
@@ -11,9 +11,6 @@ pub struct Empty {
     reach: u32,
     ghost near: { reach ≤ 1048576 },
 }
-
-/// The greatest reach that a solid may have.
-const MOST_REACH: u32 = 1_048_576;
 
 impl Empty {
     /// An empty solid of that reach, or of the greatest if it is more.

@@ -1,5 +1,6 @@
 //! Where the reach stops a shift, a question and a step.
 use crate::own_make::Empty;
+use crate::views::straight_down;
 use lattice::Point;
 use layers::Shift;
 use march::rays::Marching;
@@ -9,19 +10,11 @@ use solid::{QuestionFault, Solid};
 use std::test::Fail;
 
 fn along_x(x: i32) -> Point {
-    Point { x, y: 0, z: 0 }
+    Point::new(x, 0, 0)
 }
 
 fn one_pixel() -> ViewNumbers {
-    ViewNumbers {
-        origin: along_x(0),
-        ray: 12,
-        across: 22,
-        down: 16,
-        width: 1,
-        height: 1,
-        far: 10,
-    }
+    straight_down(along_x(0), 1, 1, 10)
 }
 
 /// The number by which a step over the solid is refused, if it is.

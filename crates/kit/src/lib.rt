@@ -18,6 +18,7 @@ use readers::surface::reads::read_surface;
 use scene::Scene;
 use scene_reader::reads::read_scene;
 use words::reader::Reader;
+use words::writing::WORD;
 
 mod desk;
 pub mod fault;
@@ -27,7 +28,7 @@ pub const MOST_PIXELS: usize = 4096;
 
 /// The bytes of an image of so many pixels, and so those that the call wants: two words in front,
 /// then one a pixel, each of four bytes.
-pub const MOST_BYTES: usize = 4 * (2 + MOST_PIXELS);
+pub const MOST_BYTES: usize = WORD * (2 + MOST_PIXELS);
 
 /// Reads job, scene and surface, joined, after which no byte is left.
 fn read_parts(

@@ -8,15 +8,13 @@ use hex::FromHexError;
 use kit::{MOST_BYTES, MOST_PIXELS, render};
 use march::pixel::Pixel;
 use refusal::told::Told;
-use std::alloc::Global;
+use std::alloc::{AllocError, Global};
+use words::writing::WORD;
 
 /// What the records and the bytes hold before a call.
 const UNTOUCHED: Pixel = Pixel::Miss { probes: 7 };
 
 const BLANK: u8 = 0xaa;
-
-/// The bytes of a refusal word.
-const WORD: usize = 4;
 
 /// The bytes that a text in hexadecimal has.
 fn decoded(heap: Global, text: &str) -> anyhow::Result<Vec<u8>> {
@@ -41,12 +39,19 @@ fn is_untouched(records: &[Pixel]) -> bool {
     records.iter().all(|record| *record == UNTOUCHED)
 }
 
+/// So many records and bytes to lend, and what they hold before a call. The kit uses no heap, and a
+/// crate for these lines, which other programs have too, would be no plainer.
+fn lent(heap: Global, records: usize, bytes: usize) -> Result<(Vec<Pixel>, Vec<u8>), AllocError> {
+    let mut lent = Vec::new(heap);
+    lent.resize(records, UNTOUCHED)?;
+    let mut out = Vec::new(heap);
+    out.resize(bytes, BLANK)?;
+    Ok((lent, out))
+}
+
 /// Does the call write the expected bytes, and no others? A refused input leaves the records.
 fn agrees(heap: Global, input: &[u8], expected: &[u8]) -> anyhow::Result<bool> {
-    let mut records = Vec::new(heap);
-    records.resize(MOST_PIXELS, UNTOUCHED)?;
-    let mut out = Vec::new(heap);
-    out.resize(MOST_BYTES, BLANK)?;
+    let (mut records, mut out) = lent(heap, MOST_PIXELS, MOST_BYTES)?;
     let Ok(length) = render(input, &mut records, &mut out) else {
         return Ok(false);
     };
@@ -60,11 +65,7 @@ fn agrees(heap: Global, input: &[u8], expected: &[u8]) -> anyhow::Result<bool> {
 /// What the call answers to the empty input where it is lent so many records and bytes, and whether
 /// it wrote nowhere.
 fn tell_refused(rt: &HostRuntime, records: usize, bytes: usize) -> anyhow::Result<()> {
-    let heap = rt.alloc();
-    let mut lent = Vec::new(heap);
-    lent.resize(records, UNTOUCHED)?;
-    let mut out = Vec::new(heap);
-    out.resize(bytes, BLANK)?;
+    let (mut lent, mut out) = lent(rt.alloc(), records, bytes)?;
     match render(&[], &mut lent, &mut out) {
         Ok(length) => println!(rt; "{records} records, {bytes} bytes: {length} bytes written")?,
         Err(fault) => {

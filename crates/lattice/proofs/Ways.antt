@@ -1,8 +1,8 @@
 -- What each row of the table of directions is.
-use Rattle.std.proofs.Common.{◌≡◌, ℕ, ◌+◌, ◌*◌, ◌/◌, ◌%◌, ◌<◌, ◌≤◌, eqb, ltb, ℤ, pos, ◌-ℤ◌, nat_abs, Some, None, sym, ap, ◌∙◌, ⊎_elim, arith, w32, to_z, of_z}
+use Rattle.std.proofs.Common.{◌≡◌, ℕ, ◌+◌, ◌/◌, ◌%◌, ◌<◌, ◌≤◌, ℤ, pos, ◌-ℤ◌, nat_abs, ap, ⊎_elim, arith, w32, to_z, of_z}
 use borrow.Author.Differences.{ints}
-use Rattle.std.proofs.lemmas.Bool.{cases_lt, cond-true, cond-false, lt-ltb, ne_eqb}
-use Rattle.lattice.specs.Rows.{triple, row_of, Rule}
+use Rattle.std.proofs.lemmas.Bool.{cases_lt}
+use Rattle.lattice.specs.Rows.{triple}
 
 pub short : (n : ℕ) → n < 3 → nat_abs (pos n -ℤ pos 1) ≤ 1
 short n h = omega (arith, ints)
@@ -19,13 +19,6 @@ some_moves a b c n = ⊎_elim (λ h. h) (λ h. absurd (n (omega arith) (omega ar
 pub moves : (k : ℕ) → (k ≡ 13 → ⊥) → 1 ≤ nat_abs (pos (k / 9) -ℤ pos 1) + nat_abs (pos (k / 3 % 3) -ℤ pos 1) + nat_abs (pos (k % 3) -ℤ pos 1)
 moves k n = some_moves (pos (k / 9) -ℤ pos 1) (pos (k / 3 % 3) -ℤ pos 1) (pos (k % 3) -ℤ pos 1) (λ a b c. n (digits k (still (k / 9) a) (still (k / 3 % 3) b) (still (k % 3) c)))
 
-pub rule : Rule
-rule a b c ha hb hc =
-    let ea : (9 * a + 3 * b + c) / 9 ≡ a = omega arith in
-    let eb : (9 * a + 3 * b + c) / 3 % 3 ≡ b = omega arith in
-    let ec : (9 * a + 3 * b + c) % 3 ≡ c = omega arith in
-    λ t. (pos (ea t) -ℤ pos 1, pos (eb t) -ℤ pos 1, pos (ec t) -ℤ pos 1)
-
 -- a part of a row, as the code hands it on by way of its bits
 pub carried : (z : ℤ) (n : ℕ) → z ≡ pos n -ℤ pos 1 → n < 3 → to_z w32 (of_z w32 z) ≡ pos n -ℤ pos 1
 carried z n e h = omega (arith, ints)
@@ -39,7 +32,3 @@ module _ (t : ℤ × ℤ × ℤ) (k : ℕ) (l : k < 27) (e : t ≡ triple k) whe
 
   pub z_is : to_z w32 (of_z w32 t.2) ≡ pos (k % 3) -ℤ pos 1
   z_is = carried t.2 (k % 3) (ap (λ (s : ℤ × ℤ × ℤ). s.2) e) (omega arith)
-
--- a row of the table, as the rule names it
-pub row_is : (z : ℤ) (k : ℕ) (t : ℤ × ℤ × ℤ) → z ≡ pos k → k < 27 → (k ≡ 13 → ⊥) → t ≡ triple k → Some t ≡ row_of z
-row_is z k t e l n s = ap Some s ∙ sym (cond-false (eqb k 13) None (Some (triple k)) (ne_eqb k 13 n)) ∙ sym (cond-true (ltb k 27) _ None (lt-ltb k 27 l)) ∙ sym (ap row_of e)

@@ -16,6 +16,13 @@ pub struct Point {
 }
 
 impl Point {
+    /// The point of these three numbers.
+    pub fn new(x: i32, y: i32, z: i32) -> Point
+        ensures { result ≡ record { x = x; y = y; z = z } }
+    {
+        Point { x, y, z }
+    }
+
     /// The largest of the three absolute differences.
     pub fn distance(self, other: Point) -> u32
         ensures { result ≡ dist self other }

@@ -12,7 +12,7 @@ ghost use Rattle.layers.specs.Told.{layer_told};
 ghost use Rattle.layers.specs.Made.{both_answers, offset_checked, shift_made, thicken_number, cap_number, parts};
 
 use lattice::Point;
-use refusal::range::{OutOfRange, in_range};
+use refusal::range::{OutOfRange, count_in, in_range};
 use refusal::{Refusal, Rule};
 use solid::{Exact, QuestionFault, Solid, check_asked};
 
@@ -53,19 +53,19 @@ impl From<OutOfRange> for LayerFault {
 }
 
 /// The largest part that an offset may have, in size.
-pub const OFFSET_MOST: i32 = 16_383;
+pub const MOST_OFFSET: i32 = 16_383;
 
 /// The least distance to thicken by.
-pub const THICKEN_LEAST: i32 = 0;
+pub const LEAST_THICKNESS: i32 = 0;
 
 /// The largest distance to thicken by.
-pub const THICKEN_MOST: i32 = 1023;
+pub const MOST_THICKNESS: i32 = 1023;
 
 /// The least bound that a cap may set.
-const CAP_LEAST: i32 = 1;
+const LEAST_CAP: i32 = 1;
 
 /// The largest bound that a cap may set.
-const CAP_MOST: i32 = 2_097_151;
+const MOST_CAP: i32 = 2_097_151;
 
 /// Where a call's numbers stand. An offset has three; a distance or a bound is the first alone.
 const FIRST: u32 = 1;
@@ -75,13 +75,15 @@ const SECOND: u32 = 2;
 const THIRD: u32 = 3;
 
 /// Checks an offset of a solid of that reach: refuses with 4 the first part outside -16383..=16383,
-/// then with 11 an offset of which a part is above the reach, in size.
+/// then with 11 an offset of which a part is above the reach, in size. Three crates
+/// test a point's parts so: what they share is `in_range`, and one function of the three tests would save two lines
+/// and want a range, and a first place of a type that has two after it.
 pub fn check_offset(reach: u32, by: Point) -> Result<(), LayerFault>
     ensures { result ≡ offset_checked reach by }
 {
-    in_range(by.x, -OFFSET_MOST, OFFSET_MOST, FIRST)?;
-    in_range(by.y, -OFFSET_MOST, OFFSET_MOST, SECOND)?;
-    in_range(by.z, -OFFSET_MOST, OFFSET_MOST, THIRD)?;
+    in_range(by.x, -MOST_OFFSET, MOST_OFFSET, FIRST)?;
+    in_range(by.y, -MOST_OFFSET, MOST_OFFSET, SECOND)?;
+    in_range(by.z, -MOST_OFFSET, MOST_OFFSET, THIRD)?;
     if by.norm() > reach {
         return Err(LayerFault::PastReach);
     }
@@ -92,8 +94,7 @@ pub fn check_offset(reach: u32, by: Point) -> Result<(), LayerFault>
 pub fn check_thickness(by: i32) -> Result<u32, LayerFault>
     ensures { result ≡ thicken_number by }
 {
-    let by = in_range(by, THICKEN_LEAST, THICKEN_MOST, FIRST)?;
-    Ok(by.unsigned_abs())
+    Ok(count_in(by, LEAST_THICKNESS, MOST_THICKNESS, FIRST)?)
 }
 
 /// The reach of what stands on two solids.
@@ -291,11 +292,8 @@ impl<S: Drop> Cap<S> {
     pub fn new(below: S, most: i32) -> Result<Cap<S>, LayerFault>
         ensures { result_map_both (λ c. parts c.below c.most) (λ e. e) result ≡ result_map_both (parts below) (λ e. e) (cap_number most) }
     {
-        let most = in_range(most, CAP_LEAST, CAP_MOST, FIRST)?;
-        Ok(Cap {
-            below,
-            most: most.unsigned_abs(),
-        })
+        let most = count_in(most, LEAST_CAP, MOST_CAP, FIRST)?;
+        Ok(Cap { below, most })
     }
 }
 

@@ -10,7 +10,7 @@ ghost use Rattle.leaves.specs.Made.{ball_made};
 use super::LEAF_REACH;
 use super::fault::{LeafFault, check_point};
 use lattice::Point;
-use refusal::range::in_range;
+use refusal::range::count_in;
 use solid::{Exact, QuestionFault, Solid, check_asked};
 
 /// The points whose squared offsets from the centre add to at most the radius squared.
@@ -40,11 +40,8 @@ impl Ball {
         ensures smallest { SmallestStands }
     {
         check_point(centre, CENTRE_PLACE)?;
-        let radius = in_range(radius, LEAST_RADIUS, MOST_RADIUS, RADIUS_PLACE)?;
-        Ok(Ball {
-            centre,
-            radius: radius.unsigned_abs(),
-        })
+        let radius = count_in(radius, LEAST_RADIUS, MOST_RADIUS, RADIUS_PLACE)?;
+        Ok(Ball { centre, radius })
     }
 }
 

@@ -73,8 +73,9 @@ pub const LEAST_COORDINATE: i32 = -16_384;
 
 pub const MOST_COORDINATE: i32 = 16_383;
 
-/// Checks the three numbers of a point, the first of which stands at the place `first`. A function for
-/// every crate would have to take a place that has none after it.
+/// Checks the three numbers of a point, the first of which stands at the place `first`. Three crates test a
+/// point's parts so: what they share is `in_range`, and one function of the three tests would save two lines
+/// and want a range, and a first place of a type that has two after it.
 #[tactic(auto, unfolding(crate::specs::Made::point_ranged, crate::specs::Made::ranged))]
 pub(crate) fn check_point(p: Point, first: u32) -> Result<(), LeafFault>
     requires { first ≤ 4 }

@@ -22,9 +22,9 @@ pub struct Sheet {
 }
 
 /// How many columns a side of a sheet may have.
-const SHORTEST_SIDE: i32 = 1;
+pub const SHORTEST_SIDE: i32 = 1;
 
-const LONGEST_SIDE: i32 = 64;
+pub const LONGEST_SIDE: i32 = 64;
 
 /// A width or a depth that lies in its range.
 fn side(n: i32) -> Result<u32, SurfaceFault>
@@ -42,11 +42,18 @@ impl Sheet {
     pub fn check(width: i32, depth: i32, heights: &[i16]) -> Result<Sheet, SurfaceFault>
         ensures { result_map_both (λ (s : Sheet). (s.width, s.depth)) (λ e. e) result ≡ sheet_made width depth (length heights.now) }
     {
+        Sheet::for_room(width, depth, heights.len())
+    }
+
+    /// The same where there is room for so many heights.
+    pub fn for_room(width: i32, depth: i32, room: usize) -> Result<Sheet, SurfaceFault>
+        ensures { result_map_both (λ (s : Sheet). (s.width, s.depth)) (λ e. e) result ≡ sheet_made width depth room }
+    {
         let sheet = Sheet {
             width: side(width)?,
             depth: side(depth)?,
         };
-        if heights.len() < sheet.columns() {
+        if room < sheet.columns() {
             return Err(SurfaceFault::Buffer);
         }
         Ok(sheet)
@@ -78,7 +85,8 @@ fn height_at(heights: &[i16], column: usize) -> i16
     heights.get(column).copied().unwrap_or(LOWEST_HEIGHT)
 }
 
-/// The greatest height of the first `columns`, of which there may be fewer.
+/// The greatest height of the first `columns`. There may be fewer: a caller would cut the slice at the smaller
+/// of the two, which `take` does in a word.
 fn greatest(heights: &[i16], columns: usize) -> i16
     ensures { result ≡ greatest columns heights.now }
 {

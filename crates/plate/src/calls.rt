@@ -6,7 +6,7 @@ ghost use Rattle.plate_log.specs.Opening.{blank, opening};
 ghost use Rattle.plate_log.specs.Example.{Worked};
 ghost use Rattle.plate_log.specs.Law.{Promise, Whole};
 
-use super::{HEAD, Plate, WORD, count_marching, is_marching, put_image, renew, settle, sweep_all};
+use super::{HEAD, Plate, count_marching, is_marching, put_image, renew, settle, sweep_all};
 use lattice::Point;
 use lattice::direction::Direction;
 use march::deep::Deep;
@@ -14,6 +14,7 @@ use march::pixel::Pixel;
 use march::view::{View, ViewNumbers};
 use plate_log::fault::PlateFault;
 use solid::Solid;
+use words::writing::WORD;
 
 impl<'a> Plate<'a> {
     /// A plate that is not opened: its view is one of no pixels, so that every call has a view to
@@ -75,7 +76,8 @@ impl<'a> Plate<'a> {
     }
 
     /// Steps one pixel until it settles or the budget is spent. The probes that it spent, and, counted
-    /// as a sweep counts them, the pixels that still march: 1 or 0.
+    /// as a sweep counts them, the pixels that still march: 1 or 0, so that one definition (`counts_of`) serves
+    /// both.
     pub fn touch<S: Solid>(
         &mut self,
         i: u32,

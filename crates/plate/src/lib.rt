@@ -3,10 +3,8 @@
 #![tactic(auto)]
 
 ghost use Rattle.std.specs.Prelude.{◌≡◌, ℕ, ◌+◌, ◌-◌, ◌*◌, ◌≤◌, true, ◌++◌, length, take, drop, replicate};
-ghost use Rattle.std.proofs.Math.Seq.{paste};
 ghost use Rattle.march.specs.View.{along};
 ghost use Rattle.march.specs.March.{fresh, sane, marches, stepped, settled};
-ghost use Rattle.words.specs.Words.{four};
 ghost use Rattle.plate_log.specs.Sweep.{all_sane, marching, swept};
 ghost use Rattle.plate_log.specs.Log.{area, along_ray, clear_along, word, image};
 
@@ -15,7 +13,8 @@ use march::pixel::Pixel;
 use march::rays::{Marching, Ray};
 use march::view::View;
 use solid::Solid;
-use words::kind::Kind;
+use words::kind::{FIRST_OF_TWO, Kind};
+use words::writing::put;
 
 pub mod calls;
 
@@ -59,6 +58,9 @@ fn renew(pixels: &mut [Pixel])
     pixels.fill(Pixel::Marching { t: 0, probes: 0 });
 }
 
+// That pixels are sane and as many as the view's is said where they are lent: a type over the lent slice
+// that holds it would be `Plate` once more.
+
 /// Steps the pixels row by row, each until it settles, and stops the moment the budget is spent.
 /// How much was spent.
 fn sweep_all<S: Solid>(pixels: &mut [Pixel], view: View, solid: &Deep<'_, S>, budget: u32) -> u32
@@ -70,7 +72,8 @@ fn sweep_all<S: Solid>(pixels: &mut [Pixel], view: View, solid: &Deep<'_, S>, bu
 {
     let width = view.width as usize;
     let mut spent = 0;
-    // The steps stand in a loop within the two others, so that a spent budget leaves all three at once.
+    // Rows, columns and steps are nested loops left from inside by a label, which is this project's rule for a
+    // sweep: it is plain then that a spent budget stops all three. `settle` has the steps of one pixel alone.
     // Rows by `chunks_exact_mut`, and by `split_at_mut` of what is left, were tried: of the pixels
     // after such a loop the checker knows nothing.
     'sweep: for j in 0..view.height {
@@ -96,19 +99,14 @@ fn settle<S: Solid>(pixel: &mut Pixel, ray: Ray, solid: &Deep<'_, S>, budget: u3
     ensures spent { result ≡ budget - (settled (clear_along (S.Solid.body solid.now.solid.now) ray) ray.far budget pixel.old).1 }
     ensures sound { sane ray.far pixel.new ≡ true }
 {
-    let mut spent = 0;
-    while let Pixel::Marching { t, probes } = *pixel {
-        if spent == budget {
-            break;
-        }
+    for spent in 0..budget {
+        let Pixel::Marching { t, probes } = *pixel else {
+            return spent;
+        };
         *pixel = step(ray, t, probes, solid);
-        spent += 1;
     }
-    spent
+    budget
 }
-
-/// Bits 27..16 are the first of two numbers, bits 15..0 the second.
-const FIRST: u32 = 0x1_0000;
 
 /// A pixel as a word of an image, where it has settled.
 fn word_of(pixel: Pixel) -> u32
@@ -117,25 +115,13 @@ fn word_of(pixel: Pixel) -> u32
 {
     match pixel {
         Pixel::Marching { .. } => 0,
-        Pixel::Hit { depth, probes } => Kind::Hit.word(depth * FIRST + probes),
+        Pixel::Hit { depth, probes } => Kind::Hit.word(depth * FIRST_OF_TWO + probes),
         Pixel::Miss { probes } => Kind::Miss.word(probes),
     }
 }
 
-/// The bytes of a word.
-const WORD: usize = 4;
-
 /// The words of an image before its pixels: its start and its far.
 const HEAD: usize = 2;
-
-/// Writes word k of the bytes, the least significant byte first.
-fn put(out: &mut [u8], k: usize, word: u32)
-    requires { 4 * (k + 1) ≤ length out.old }
-    ensures { out.new ≡ paste out.old (4 * k) (four word) 4 }
-{
-    let at = WORD * k;
-    out[at..at + WORD].copy_from_slice(&word.to_le_bytes());
-}
 
 /// Writes the image: its start, far, and a word for each pixel.
 fn put_image(pixels: &[Pixel], view: View, out: &mut [u8])
@@ -143,10 +129,11 @@ fn put_image(pixels: &[Pixel], view: View, out: &mut [u8])
     requires sound { all_sane view.far pixels.now ≡ true }
     ensures { out.new ≡ image view pixels.now ++ drop (4 * (2 + length pixels.now)) out.old }
 {
-    put(out, 0, Kind::Image.word(view.width * FIRST + view.height));
-    put(out, 1, Kind::Number.word(view.far));
+    let start = Kind::Image.word(view.width * FIRST_OF_TWO + view.height);
+    put(out, 0, start).unwrap();
+    put(out, 1, Kind::Number.word(view.far)).unwrap();
     // A zip with `chunks_exact_mut` was tried: of the bytes after such a loop the checker knows nothing.
     for (k, pixel) in pixels.iter().enumerate() {
-        put(out, HEAD + k, word_of(*pixel));
+        put(out, HEAD + k, word_of(*pixel)).unwrap();
     }
 }

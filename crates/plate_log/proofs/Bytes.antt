@@ -1,6 +1,5 @@
 -- The bytes of an image, one word at a time: as they are put, and as they are read back.
 use Rattle.std.proofs.Common.{◌≡◌, ℕ, zero, suc, ◌+◌, ◌*◌, ◌/◌, ◌%◌, ◌<◌, ◌≤◌, true, false, eqb, List, [], ◌∷◌, ◌++◌, length, get_or, take, drop, Some, sym, refl, ap, ◌∙◌, append_assoc, arith, length-append}
-use lib.Seq.{paste}
 use Rattle.std.proofs.lemmas.List.{take_more, take_at, drop_at, drop-drop, take_all, length-take-le}
 use Rattle.std.proofs.lemmas.Bool.{cond-true, cond-false, both_ways, leb-true, eq-eqb, ne_eqb}
 use Rattle.march.specs.declared.pixel.Pixel.{Pixel}
@@ -8,6 +7,7 @@ use Rattle.march.specs.declared.pixel.Pixel.TheVariants.{Marching, Hit, Miss}
 use Rattle.march.specs.declared.view.View.{View}
 use Rattle.march.specs.March.{fresh, sane, marches}
 use Rattle.words.specs.Words.{four, image_word, number_word}
+use Rattle.words.specs.Writing.{with_word}
 use Rattle.plate_log.specs.Sweep.{past}
 use Rattle.plate_log.specs.Log.{word, bytes, image}
 use Rattle.plate_log.specs.Fair.{word_at, state}
@@ -22,35 +22,35 @@ bytes_append : (ps qs : List Pixel) → bytes (ps ++ qs) ≡ bytes ps ++ bytes q
 bytes_append [] qs = refl
 bytes_append (p ∷ ps) qs = ap (λ t. four (word p) ++ t) (bytes_append ps qs) ∙ sym (append_assoc (four (word p)) (bytes ps) (bytes qs))
 
-put_next : (front old : List ℕ) (x n : ℕ) → length front ≡ n → paste (front ++ drop n old) n (four x) 4 ≡ (front ++ four x) ++ drop (n + 4) old
-put_next front old x n e =
-    ap (λ t. (t ++ four x) ++ drop (n + 4) (front ++ drop n old)) (take_at front (drop n old) n e)
-    ∙ ap (λ t. (front ++ four x) ++ t) (sym (drop-drop 4 n (front ++ drop n old)) ∙ ap (drop 4) (drop_at front (drop n old) n e) ∙ drop-drop 4 n old)
+put_next : (front old : List ℕ) (x k : ℕ) → length front ≡ 4 * k → with_word k x (front ++ drop (4 * k) old) ≡ (front ++ four x) ++ drop (4 * k + 4) old
+put_next front old x k e =
+    ap (λ t. (t ++ four x) ++ drop (4 * k + 4) (front ++ drop (4 * k) old)) (take_at front (drop (4 * k) old) (4 * k) e)
+    ∙ ap (λ t. (front ++ four x) ++ t) (sym (drop-drop 4 (4 * k) (front ++ drop (4 * k) old)) ∙ ap (drop 4) (drop_at front (drop (4 * k) old) (4 * k) e) ∙ drop-drop 4 (4 * k) old)
 
 -- an image's first two words
 abbrev pub head : View → List ℕ
 head v = four (image_word v.width v.height) ++ four (number_word v.far)
 
-put_head : (v : View) (old one two : List ℕ) → one ≡ paste old 0 (four (image_word v.width v.height)) 4 → two ≡ paste one 4 (four (number_word v.far)) 4 → two ≡ head v ++ drop 8 old
+put_head : (v : View) (old one two : List ℕ) → one ≡ with_word 0 (image_word v.width v.height) old → two ≡ with_word 1 (number_word v.far) one → two ≡ head v ++ drop 8 old
 put_head v old one two e f =
     let w = image_word v.width v.height in
     let first : one ≡ four w ++ drop 4 old = e ∙ put_next [] old w 0 refl in
-    f ∙ ap (λ t. paste t 4 (four (number_word v.far)) 4) first ∙ put_next (four w) old (number_word v.far) 4 refl
+    f ∙ ap (with_word 1 (number_word v.far)) first ∙ put_next (four w) old (number_word v.far) 1 refl
 
 -- the pixel at k written behind those before it
 pub put_more : (v : View) (ps : List Pixel) (out old next : List ℕ) (k : ℕ) → k < length ps → out ≡ (head v ++ bytes (take k ps)) ++ drop (4 * (2 + k)) old
-    → next ≡ paste out (4 * (2 + k)) (four (word (get_or ps k fresh))) 4 → next ≡ (head v ++ bytes (take (k + 1) ps)) ++ drop (4 * (2 + (k + 1))) old
+    → next ≡ with_word (2 + k) (word (get_or ps k fresh)) out → next ≡ (head v ++ bytes (take (k + 1) ps)) ++ drop (4 * (2 + (k + 1))) old
 put_more v ps out old next k h i e =
     let x = get_or ps k fresh in
     let long : length (head v ++ bytes (take k ps)) ≡ 4 * (2 + k) = omega (arith, length-append (head v) (bytes (take k ps)), length_bytes (take k ps), length-take-le k ps (omega arith)) in
     let front : (head v ++ bytes (take k ps)) ++ four (word x) ≡ head v ++ bytes (take (k + 1) ps)
     = append_assoc (head v) (bytes (take k ps)) (four (word x)) ∙ ap (λ t. head v ++ t) (sym (ap bytes (take_more ps k fresh h) ∙ bytes_append (take k ps) (x ∷ []))) in
     let place : 4 * (2 + k) + 4 ≡ 4 * (2 + (k + 1)) = omega arith in
-    e ∙ ap (λ t. paste t (4 * (2 + k)) (four (word x)) 4) i ∙ put_next (head v ++ bytes (take k ps)) old (word x) (4 * (2 + k)) long
+    e ∙ ap (with_word (2 + k) (word x)) i ∙ put_next (head v ++ bytes (take k ps)) old (word x) (2 + k) long
     ∙ ap (λ t. t ++ drop (4 * (2 + k) + 4) old) front ∙ ap (λ (n : ℕ). (head v ++ bytes (take (k + 1) ps)) ++ drop n old) place
 
 pub put_all : (v : View) (ps : List Pixel) (out one two old : List ℕ) (k : ℕ) → length ps ≤ k → k ≤ length ps
-    → one ≡ paste old 0 (four (image_word v.width v.height)) 4 → two ≡ paste one 4 (four (number_word v.far)) 4
+    → one ≡ with_word 0 (image_word v.width v.height) old → two ≡ with_word 1 (number_word v.far) one
     → out ≡ (head v ++ bytes (take k ps)) ++ drop (4 * (2 + k)) two → out ≡ image v ps ++ drop (4 * (2 + length ps)) old
 put_all v ps out one two old k h l e f i =
     let n : k ≡ length ps = omega arith in

@@ -120,6 +120,14 @@ fn numbers_of_a_job_out_of_range(rt: HostRuntime) -> Result<(), Fail> {
 }
 
 #[test]
+fn a_bit_too_many_comes_first(rt: HostRuntime) -> Result<(), Fail> {
+    // beside a row that does not move, and a width of 65
+    assert_eq!(rt; told_with(&rt, 4, 0x2001_000d)?, Err((3, 4)));
+    assert_eq!(rt; told_with(&rt, 7, 0x2001_0041)?, Err((3, 7)));
+    Ok(())
+}
+
+#[test]
 fn corners_come_last(rt: HostRuntime) -> Result<(), Fail> {
     assert_eq!(rt; told_with(&rt, 16, number(101))?, Err((6, 14)));
     assert_eq!(rt; told_with(&rt, 17, number(-101))?, Err((6, 14)));

@@ -261,6 +261,14 @@ fn which_of_two_faults_comes_first(rt: HostRuntime) -> Result<(), Fail> {
         0x2000_7fff,
     ];
     assert_eq!(rt; told_of(&rt, &thickened)?, Err((10, 12)));
+    // it passes the count too: 12 comes first
+    let uncounted = with(rt.alloc(), thickened, 0, 0x1000_000c)?;
+    assert_eq!(rt; told(&uncounted), Err((12, 12)));
+    // a shift of nothing, by a number that is out of range: 9 comes first
+    assert_eq!(rt;
+        told_of(&rt, &[0x1000_0004, SHIFT, number(16384), ZERO, ZERO])?,
+        Err((9, 1))
+    );
     // crossed corners, and a later number out of range: the number comes first
     let crossed = [
         0x1000_0007,
@@ -288,14 +296,27 @@ fn which_of_two_faults_of_one_word_comes_first(rt: HostRuntime) -> Result<(), Fa
     Ok(())
 }
 
-/// A ball, and then so many nodes of these words, under a start word.
-fn ball_and(rt: &HostRuntime, start: u32, node: &[u32], times: u32) -> Result<Answer<u32>, Fail> {
+/// These words, then so many nodes of one kind, and then the last words.
+fn chain(
+    rt: &HostRuntime,
+    first: &[u32],
+    node: &[u32],
+    times: u32,
+    last: &[u32],
+) -> Result<Answer<u32>, Fail> {
     let mut words = Vec::new(rt.alloc());
-    words.extend_from_slice(&[start, BALL, ZERO, ZERO, ZERO, ZERO])?;
+    words.extend_from_slice(first)?;
     for _ in 0..times {
         words.extend_from_slice(node)?;
     }
+    words.extend_from_slice(last)?;
     told_of(rt, &words)
+}
+
+/// A ball, and then so many nodes of these words, under a start word.
+fn ball_and(rt: &HostRuntime, start: u32, node: &[u32], times: u32) -> Result<Answer<u32>, Fail> {
+    let ball = [start, BALL, ZERO, ZERO, ZERO, ZERO];
+    chain(rt, &ball, node, times, &[])
 }
 
 #[test]
@@ -317,6 +338,38 @@ fn the_257th_node_comes_before_its_numbers(rt: HostRuntime) -> Result<(), Fail> 
     assert_eq!(rt;
         ball_and(&rt, 0x1000_0204, &[THICKEN, ZERO], 256)?,
         Err((8, 516))
+    );
+    Ok(())
+}
+
+#[test]
+fn the_257th_node_comes_before_what_it_takes(rt: HostRuntime) -> Result<(), Fail> {
+    let ball = [0x1000_0204, BALL, ZERO, ZERO, ZERO, ZERO];
+    let grown = [THICKEN, ZERO];
+    // of the two that it would unite one stands; a bit too many comes before it
+    assert_eq!(rt; chain(&rt, &ball, &grown, 255, &[UNITE])?, Err((8, 516)));
+    assert_eq!(rt;
+        chain(&rt, &ball, &grown, 255, &[UNITE + 1])?,
+        Err((3, 516))
+    );
+    // what it would thicken is a meet, shifted 253 times
+    let meet = [
+        0x1000_0401,
+        BALL,
+        ZERO,
+        ZERO,
+        ZERO,
+        ZERO,
+        BALL,
+        ZERO,
+        ZERO,
+        ZERO,
+        ZERO,
+        MEET,
+    ];
+    assert_eq!(rt;
+        chain(&rt, &meet, &[SHIFT, ZERO, ZERO, ZERO], 253, &grown)?,
+        Err((8, 1024))
     );
     Ok(())
 }
@@ -346,5 +399,11 @@ fn a_chain_of_shifts_uses_up_the_reach(rt: HostRuntime) -> Result<(), Fail> {
     assert_eq!(rt; ball_and(&rt, 0x1000_0101, &shift, 63)?, Ok(16_447));
     assert_eq!(rt; ball_and(&rt, 0x1000_0105, &shift, 64)?, Ok(64));
     assert_eq!(rt; ball_and(&rt, 0x1000_0109, &shift, 65)?, Err((11, 262)));
+    // a number out of range comes before the reach, which is 64 there
+    let ball = [0x1000_0109, BALL, ZERO, ZERO, ZERO, ZERO];
+    assert_eq!(rt;
+        chain(&rt, &ball, &shift, 64, &[SHIFT, number(16384), ZERO, ZERO])?,
+        Err((4, 263))
+    );
     Ok(())
 }

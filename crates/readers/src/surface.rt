@@ -1,15 +1,17 @@
 //! A surface, as it is read: its sizes. The heights go to the caller.
 ghost use Rattle.std.specs.Prelude.{◌≡◌, ◌*◌};
-ghost use Rattle.readers.specs.SurfaceTold.{surface_told};
+ghost use Rattle.readers.specs.SurfaceTold.{surface_told, unmade};
 ghost use Rattle.readers.specs.declared.surface.SurfaceReadFault.TheVariants.{Word};
 
+use leaves::fault::SurfaceFault;
 use refusal::{Refusal, Rule};
 use words::fault::WordFault;
 
 pub mod reads;
 
 /// The columns of a surface: `width` of them along x, `depth` along y. They are plain numbers, so that
-/// what is read can be set equal to its definition; the leaves' `Sheet` holds that they are in range too.
+/// what is read is set equal to its definition, which makes such a size. The leaves' `Sheet` holds proofs that
+/// they are in range too: the definition would answer a pair in its place, and each clause map to that.
 #[derive(Clone, Copy, PartialEq, Eq, Debug)]
 pub struct SurfaceSize {
     pub width: u32,
@@ -51,6 +53,17 @@ impl Refusal for SurfaceReadFault {
         match self {
             SurfaceReadFault::Word(fault) => fault.place(),
             SurfaceReadFault::Size | SurfaceReadFault::Buffer => 0,
+        }
+    }
+}
+
+impl From<SurfaceFault> for SurfaceReadFault {
+    ghost from_gives = { λ e r. r ≡ unmade e };
+
+    fn from(fault: SurfaceFault) -> SurfaceReadFault {
+        match fault {
+            SurfaceFault::Size => SurfaceReadFault::Size,
+            SurfaceFault::Buffer => SurfaceReadFault::Buffer,
         }
     }
 }

@@ -1,6 +1,6 @@
 //! Numbers that have to lie in a range.
 ghost use Rattle.std.specs.Prelude.{◌≡◌};
-ghost use Rattle.refusal.specs.Ranges.{in_range, range_told};
+ghost use Rattle.refusal.specs.Ranges.{in_range, count_in, range_told};
 
 use super::{Refusal, Rule};
 
@@ -22,8 +22,9 @@ impl Refusal for OutOfRange {
     }
 }
 
-/// The number, which stands at that place, if it lies in `least..=most`. The bounds are two numbers:
-/// a constant's value cannot be the library's range, and a struct of ours would be one more name for it.
+/// The number, which stands at that place, if it lies in `least..=most`. The bounds are two numbers,
+/// as in `Reader::number_in`: the value of a constant cannot be the library's range, so that a range would be
+/// made of the same two at each call.
 pub fn in_range(n: i32, least: i32, most: i32, place: u32) -> Result<i32, OutOfRange>
     ensures { result ≡ in_range n least most place }
 {
@@ -31,4 +32,11 @@ pub fn in_range(n: i32, least: i32, most: i32, place: u32) -> Result<i32, OutOfR
         return Err(OutOfRange { place });
     }
     Ok(n)
+}
+
+/// The same of a number that counts: its size, if the number lies in `least..=most`.
+pub fn count_in(n: i32, least: i32, most: i32, place: u32) -> Result<u32, OutOfRange>
+    ensures { result ≡ count_in n least most place }
+{
+    Ok(in_range(n, least, most, place)?.unsigned_abs())
 }

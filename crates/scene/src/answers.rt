@@ -29,7 +29,7 @@ impl Scene {
 
     /// Becomes the scene of a draft in which one node alone stands. From another it is refused with
     /// 12 and stays what it was.
-    // It writes where the caller keeps a scene, which holds its table; a `TryFrom` would hand out a copy.
+    // No `TryFrom`: it is a scene of the caller's that is filled or, refused, stays, which the clauses say.
     pub fn fill(&mut self, draft: &Draft) -> Result<(), DraftFault>
         ensures value { (result, scene_body self.new) ≡ filled (state draft.now).1 (scene_body self.old) }
         ensures same { OnErr result (self.new ≡ self.old) }

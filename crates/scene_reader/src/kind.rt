@@ -41,8 +41,7 @@ impl Kind {
         match self {
             Kind::Ball => 4,
             Kind::Block => 6,
-            Kind::Unite => 0,
-            Kind::Meet => 0,
+            Kind::Unite | Kind::Meet => 0,
             Kind::Shift => 3,
             Kind::Thicken => 1,
         }
@@ -53,12 +52,9 @@ impl Kind {
         ensures { result ≡ takes self }
     {
         match self {
-            Kind::Ball => 0,
-            Kind::Block => 0,
-            Kind::Unite => 2,
-            Kind::Meet => 2,
-            Kind::Shift => 1,
-            Kind::Thicken => 1,
+            Kind::Ball | Kind::Block => 0,
+            Kind::Unite | Kind::Meet => 2,
+            Kind::Shift | Kind::Thicken => 1,
         }
     }
 }

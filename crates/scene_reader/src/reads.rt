@@ -10,7 +10,7 @@ ghost use Rattle.scene_reader.specs.ScenesBack.{ScenesReadBack};
 
 use super::fault::SceneFault;
 use super::kind::Kind;
-use layers::{OFFSET_MOST, THICKEN_LEAST, THICKEN_MOST};
+use layers::{LEAST_THICKNESS, MOST_OFFSET, MOST_THICKNESS};
 use leaves::ball::{LEAST_RADIUS, MOST_RADIUS};
 use leaves::fault::{LEAST_COORDINATE, MOST_COORDINATE};
 use scene::Scene;
@@ -46,21 +46,22 @@ fn check(draft: &Draft, kind: Kind, place: usize, count: usize) -> Result<(), Sc
     requires { place ≤ 1792 }
     ensures { result ≡ checked count place (state draft.now).0 kind (state draft.now).1 }
 {
-    let refused = |fault| Err(SceneFault::Node { fault, place });
     at(place, draft.check_room())?;
     if place + kind.numbers() > count {
         return Err(SceneFault::Numbers { place });
     }
     if draft.standing() < kind.takes() {
-        return refused(DraftFault::TooFew);
+        return at(place, Err(DraftFault::TooFew));
     }
     if !sure(draft, kind) {
-        return refused(DraftFault::Inexact);
+        return at(place, Err(DraftFault::Inexact));
     }
     Ok(())
 }
 
 /// Reads the numbers of the node at a place, and lays it down.
+// A struct of reader and draft would be no plainer, here and in the two below: the reader is the caller's and
+// the draft is made for the reading, `check` takes the draft alone, and `Down` would name both parts of it.
 #[tactic(auto, unfolding(crate::specs::Scenes::laid))]
 fn lay(from: &mut Reader<'_>, draft: &mut Draft, node: usize, kind: Kind) -> Result<(), SceneFault>
     requires here { place from.old ≡ node + 1 }
@@ -81,11 +82,11 @@ fn lay(from: &mut Reader<'_>, draft: &mut Draft, node: usize, kind: Kind) -> Res
         Kind::Unite => at(node, draft.unite()),
         Kind::Meet => at(node, draft.meet()),
         Kind::Shift => {
-            let by = from.point(-OFFSET_MOST, OFFSET_MOST)?;
+            let by = from.point(-MOST_OFFSET, MOST_OFFSET)?;
             at(node, draft.shift(by))
         }
         Kind::Thicken => {
-            let by = from.number_in(THICKEN_LEAST, THICKEN_MOST)?;
+            let by = from.number_in(LEAST_THICKNESS, MOST_THICKNESS)?;
             at(node, draft.thicken(by))
         }
     }
@@ -124,30 +125,26 @@ fn nodes(from: &mut Reader<'_>, draft: &mut Draft, count: usize) -> Result<(), S
     Ok(())
 }
 
-// Each reads by a copy of the reader, which it stores back once all is accepted; a closure over the
-// copy would take as many lines.
-
 /// Reads the start word: how many words come after it.
 #[tactic(auto, unfolding(crate::specs::Scenes::count_of))]
 fn count(from: &mut Reader<'_>) -> Result<usize, SceneFault>
     requires { place from.old ≡ 0 }
     ensures value { result ≡ count_of (text from.old) }
-    ensures moved { Moved result 1 from.old from.new }
+    ensures moved { OnOk result (Moved result 1 from.old from.new) }
     ensures range { IfOk result (λ n. (1 ≤ n) × (n ≤ 1792)) }
 {
-    let mut ahead = *from;
-    let count = ahead.rest_of(Word::Scene)?;
+    let count = from.rest_of(Word::Scene)?;
     if !(LEAST_WORDS..=MOST_WORDS).contains(&count) {
         return Err(SceneFault::Count);
     }
-    *from = ahead;
     Ok(count as usize)
 }
 
 /// Reads a scene, which begins at the word that is due, into a place that the caller holds. A
 /// refused one leaves the reader and the caller's scene as they were. Every scene is read back from
 /// its words.
-// It reads by a copy of the reader, so that a refused scene leaves the caller's where it was.
+// It reads by a copy of the reader, so that a refused scene leaves the caller's where it was; a closure
+// over the copy would take as many lines.
 pub fn read_scene(from: &mut Reader<'_>, scene: &mut Scene) -> Result<(), SceneFault>
     ensures value { (result, scene_body scene.new) ≡ put_scene (scene_body scene.old) (scene_of (ahead from.old)) }
     ensures read { MatchResult (scene_of (ahead from.old)) (λ x. Begun (1 + x.0) from.old from.new) (λ _. from.new ≡ from.old) }

@@ -41,6 +41,9 @@ pub fn check_asked(reach: u32, p: Point) -> Result<(), QuestionFault>
     Ok(())
 }
 
+/// No solid's reach is above this: it is one of the laws.
+pub const MOST_REACH: u32 = 1_048_576;
+
 /// A solid. `body` is what it means, and `lawful` shows that it keeps the laws.
 pub trait Solid {
     ghost body: { Self → Body };

@@ -17,10 +17,6 @@ mod played;
 /// No ray takes more steps than this: its far is at most 4,095, and each step goes on by 1 or more.
 const MOST_STEPS: u32 = 4096;
 
-fn point(x: i32, y: i32, z: i32) -> Point {
-    Point { x, y, z }
-}
-
 fn refused<F: Refusal>(rt: &HostRuntime, what: &str, fault: &F) -> anyhow::Result<()> {
     println!(rt; "{what} is refused: {}", Told::of(fault))?;
     Ok(())
@@ -67,6 +63,26 @@ fn send<S: Solid>(
     Ok(())
 }
 
+/// Rows of the table of directions: straight down, along x and along y.
+const STRAIGHT_DOWN: i32 = 12;
+
+const ALONG_X: i32 = 22;
+
+const ALONG_Y: i32 = 16;
+
+/// A view straight down from an origin, its columns along x and its rows along y.
+fn straight_down(origin: Point, width: i32, height: i32, far: i32) -> ViewNumbers {
+    ViewNumbers {
+        origin,
+        ray: STRAIGHT_DOWN,
+        across: ALONG_X,
+        down: ALONG_Y,
+        width,
+        height,
+        far,
+    }
+}
+
 /// What was made; the solids of this task are never refused.
 fn made<T, F: Refusal + Drop>(res: Result<T, F>) -> anyhow::Result<T> {
     res.map_err(|_| anyhow!("a solid of the walkthrough is refused"))
@@ -75,24 +91,16 @@ fn made<T, F: Refusal + Drop>(res: Result<T, F>) -> anyhow::Result<T> {
 /// A boss under a clamp: a ball united with a box that is shifted into place, both thickened by
 /// the stylus, cut off by a clip box, with no stride above 64.
 fn send_all(rt: &HostRuntime) -> anyhow::Result<()> {
-    let boss = made(Ball::new(point(0, 0, 0), 20))?;
-    let bar = made(AxisBox::new(point(0, 0, 0), point(30, 8, 6)))?;
-    let clamp = made(Shift::new(bar, point(10, -4, 12)))?;
+    let boss = made(Ball::new(Point::new(0, 0, 0), 20))?;
+    let bar = made(AxisBox::new(Point::new(0, 0, 0), Point::new(30, 8, 6)))?;
+    let clamp = made(Shift::new(bar, Point::new(10, -4, 12)))?;
     let grown = made(Thicken::new(Unite::new(boss, clamp), 2))?;
-    let clip = made(AxisBox::new(point(-100, -100, -100), point(100, 100, 100)))?;
+    let clip = made(AxisBox::new(Point::new(-100, -100, -100), Point::new(100, 100, 100)))?;
     let pile = made(Cap::new(Meet::new(clip, grown), 64))?;
     println!(rt;
         "the pile: cap 64 over meet of a clip box with thicken 2 over unite of a ball and a shifted box"
     )?;
-    let view = ViewNumbers {
-        origin: point(-40, 0, 200),
-        ray: 12,
-        across: 22,
-        down: 16,
-        width: 64,
-        height: 64,
-        far: 400,
-    };
+    let view = straight_down(Point::new(-40, 0, 200), 64, 64, 400);
     send(rt, &pile, view, 40, 0)?;
     send(rt, &pile, view, 52, 0)?;
     send(rt, &pile, view, 5, 30)?;

@@ -1,18 +1,18 @@
 //! A log of a plate, played line by line, with the clamp taken out in the middle of the work.
-use super::{made, point, refused};
+use super::{made, refused, straight_down};
+use lattice::Point;
 use layers::Unite;
 use leaves::axis_box::AxisBox;
 use leaves::surface::{Sheet, Surface};
 use march::pixel::Pixel;
-use march::view::ViewNumbers;
 use plate::Plate;
 use plate_log::fault::PlateFault;
 use solid::Solid;
 
 /// The sides of the plate, and its records: one for each pixel, and one that stays as it is.
-const WIDTH: u32 = 4;
+const WIDTH: i32 = 4;
 
-const HEIGHT: u32 = 2;
+const HEIGHT: i32 = 2;
 
 const RECORDS: usize = 9;
 /// The bytes of the plate's image: 4 for each of its two first words, and 4 a pixel.
@@ -46,8 +46,8 @@ fn state(rt: &HostRuntime, answer: Result<Pixel, PlateFault>) -> anyhow::Result<
 
 /// Reads every pixel, row by row.
 fn read_all(rt: &HostRuntime, plate: &Plate) -> anyhow::Result<()> {
-    for j in 0..HEIGHT {
-        for i in 0..WIDTH {
+    for j in 0..HEIGHT as u32 {
+        for i in 0..WIDTH as u32 {
             println!(rt; "read ({i}, {j})")?;
             state(rt, plate.read(i, j))?;
         }
@@ -113,24 +113,15 @@ fn without_it<S: Solid>(rt: &HostRuntime, plate: &mut Plate, stock: &S) -> anyho
 /// A scanned piece of stock, four columns by two, under a clamp that lies over two of them.
 pub(super) fn play(rt: &HostRuntime) -> anyhow::Result<()> {
     let heights: [i16; 8] = [3, 3, 2, 0, 1, 1, 1, -30];
-    let stock = Surface::new(made(Sheet::check(4, 2, &heights))?, &heights);
-    let clamp = made(AxisBox::new(point(1, 0, 5), point(2, 1, 8)))?;
+    let stock = Surface::new(made(Sheet::check(WIDTH, HEIGHT, &heights))?, &heights);
+    let clamp = made(AxisBox::new(Point::new(1, 0, 5), Point::new(2, 1, 8)))?;
     let clamped = Unite::new(&stock, clamp);
     let mut records = [Pixel::Miss { probes: 0 }; RECORDS];
     let mut plate = Plate::new(&mut records);
-    println!(rt; "a plate of {WIDTH} by {HEIGHT} pixels is opened")?;
-    let view = ViewNumbers {
-        origin: point(0, 0, 20),
-        ray: 12,
-        across: 22,
-        down: 16,
-        width: 4,
-        height: 2,
-        far: 40,
-    };
-    if let Err(fault) = plate.open(view) {
+    if let Err(fault) = plate.open(straight_down(Point::new(0, 0, 20), WIDTH, HEIGHT, 40)) {
         return refused(rt, "the opening", &fault);
     }
+    println!(rt; "a plate of {WIDTH} by {HEIGHT} pixels is opened")?;
     under_the_clamp(rt, &mut plate, &clamped)?;
     println!(rt; "the clamp is taken out")?;
     without_it(rt, &mut plate, &stock)

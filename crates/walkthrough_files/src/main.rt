@@ -5,6 +5,7 @@ use anyhow::anyhow;
 use kit::{MOST_BYTES, MOST_PIXELS, render};
 use march::pixel::Pixel;
 use picture::{tell_answer, tell_changes, tell_words, words_of};
+use words::writing::WORD;
 
 mod model;
 mod picture;
@@ -15,13 +16,14 @@ const PLACE: usize = 4;
 
 const JOB_WORDS: usize = 20;
 /// The damaged word's last byte, which has its kind, and what is put there.
-const DAMAGED_BYTE: usize = 4 * (JOB_WORDS + PLACE) + 3;
+const DAMAGED_BYTE: usize = WORD * (JOB_WORDS + PLACE) + 3;
 
 const DAMAGE: u8 = 0x70;
 
 /// Renders a file, tells what the answer says, and gives its words.
 fn rendered(rt: &HostRuntime, file: &[u8]) -> anyhow::Result<Vec<u32>> {
     let heap = rt.alloc();
+    // The kit uses no heap, and a crate for these four lines would be no plainer.
     let mut records = Vec::new(heap);
     records.resize(MOST_PIXELS, Pixel::Miss { probes: 0 })?;
     let mut out = Vec::new(heap);

@@ -1,6 +1,6 @@
 //! The bytes of a model: a job, a scene and a surface, written word by word.
 use std::alloc::{AllocError, Global};
-use words::kind::Kind;
+use words::kind::{FIRST_OF_TWO, Kind};
 
 /// The words of each node, its numbers among them.
 const BALL_WORDS: u32 = 5;
@@ -16,8 +16,8 @@ const ALONG_X: i16 = 22;
 
 const ALONG_Y: i16 = 16;
 
-/// The stock's columns; the width stands in bits 27..16 of the surface's first word.
-const STOCK_WIDTH: u32 = 10 * 0x1_0000;
+/// The stock's columns, along x and along y.
+const STOCK_WIDTH: u32 = 10;
 
 const STOCK_DEPTH: u32 = 4;
 
@@ -96,7 +96,8 @@ pub(super) fn strap_alone(heap: Global) -> Result<Vec<u8>, AllocError> {
 /// Stock with a pocket in the middle and a burr beside it.
 pub(super) fn stock(heap: Global) -> Result<Vec<u8>, AllocError> {
     let mut file = Vec::new(heap);
-    word(&mut file, Kind::Surface, STOCK_WIDTH + STOCK_DEPTH)?;
+    let sides = STOCK_WIDTH * FIRST_OF_TWO + STOCK_DEPTH;
+    word(&mut file, Kind::Surface, sides)?;
     numbers(&mut file, &[12, 12, 12, 12, 12, 12, 12, 12, 12, 12])?;
     numbers(&mut file, &[12, 12, 12, 6, 5, 5, 6, 12, 12, 12])?;
     numbers(&mut file, &[12, 12, 12, 6, 5, 5, 6, 12, 14, 13])?;

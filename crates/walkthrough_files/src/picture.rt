@@ -1,8 +1,9 @@
 //! The words of an answer, and what they say: a picture, or why the input is refused.
 use anyhow::anyhow;
+use refusal::told::Told;
 use std::alloc::{AllocError, Global};
 use std::fmt;
-use words::kind::Kind;
+use words::kind::{FIRST_OF_TWO, Kind};
 
 /// How many words are printed in a line.
 const LINE: usize = 10;
@@ -12,14 +13,17 @@ fn kind(word: u32) -> Option<Kind> {
     Kind::try_from(word >> 28).ok()
 }
 
+/// How many numbers fit bits 27..16.
+const FIRSTS: u32 = 0x1000;
+
 /// Bits 27..16 of a word: the width of a picture, the depth of a hit.
 fn upper(word: u32) -> u32 {
-    (word >> 16) & 0xfff
+    word / FIRST_OF_TWO % FIRSTS
 }
 
 /// Bits 15..0 of a word: the height of a picture, the place of a refusal.
 fn lower(word: u32) -> u32 {
-    word & 0xffff
+    word % FIRST_OF_TWO
 }
 
 /// What a pixel's word says: how far the probe travels, or that it meets nothing.
@@ -86,7 +90,8 @@ fn tell_refusal(rt: &HostRuntime, word: u32) -> anyhow::Result<()> {
     let part = (word >> 24) & 0xf;
     let number = (word >> 16) & 0xff;
     let place = lower(word);
-    println!(rt; "{word:08x}: refused, part {part}, number {number}, place {place}")?;
+    let told = Told { number, place };
+    println!(rt; "{word:08x}: refused, part {part}, {told}")?;
     Ok(())
 }
 

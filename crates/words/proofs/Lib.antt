@@ -1,3 +1,4 @@
 pub mod Chains
 pub mod Ranges
 pub mod Back
+pub mod Written

@@ -43,6 +43,9 @@ pub struct UnknownKind(pub u32);
 /// are its rest.
 pub(crate) const WORDS: u32 = 0x1000_0000;
 
+/// By which the first of two numbers stands in a word: it has bits 27..16, and the second 15..0.
+pub const FIRST_OF_TWO: u32 = 0x1_0000;
+
 impl Kind {
     /// The number of the kind.
     pub fn number(self) -> u32

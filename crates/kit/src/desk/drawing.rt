@@ -28,6 +28,7 @@ use readers::surface::reads::MOST_HEIGHTS;
 use scene::Scene;
 use scene::exact::ExactScene;
 use solid::Solid;
+use words::writing::{WORD, put};
 
 /// No stride is above this.
 const LONGEST_STRIDE: i32 = 64;
@@ -89,7 +90,8 @@ impl Desk<'_> {
     }
 
     /// The picture of a model. A guard of 1 or more is a thickness for the scene, which has to be
-    /// exact then; at 0 that layer is absent.
+    /// exact then; at 0 that layer is absent. The size and the heights stay two: a `Surface` holds both,
+    /// but a promise over one would have to take it apart again, since a model has its size and heights.
     fn draw_model(
         &mut self,
         job: &Job,
@@ -111,7 +113,8 @@ impl Desk<'_> {
             depth: size.depth,
         };
         let surface = Surface::new(sheet, heights);
-        // The guard is no Option: it is the job's own number, in which 0 leaves the layer out.
+        // The guard is no Option: the format's is a number from 0, and an Option would be made of it here and
+        // matched at once.
         if job.guard == 0 {
             return self.pile_up(surface, scene, job);
         }
@@ -139,9 +142,9 @@ impl Desk<'_> {
         ensures long { result ≡ 4 }
         ensures lender { SameLoans self.old self.new }
     {
-        let bytes = word.to_le_bytes();
-        self.out[..4].copy_from_slice(&bytes);
-        bytes.len()
+        let out = &mut *self.out;
+        put(out, 0, word).unwrap();
+        WORD
     }
 
     /// Draws the picture, or writes the one word that says why the input is refused. How many bytes

@@ -60,10 +60,7 @@ impl Direction {
         ensures value { parts result ≡ row_of row }
         ensures rule { Rule }
     {
-        if row < 0 {
-            return None;
-        }
-        let k = row as usize;
+        let k = usize::try_from(row).ok()?;
         if k >= DIRECTIONS.len() || k == STILL {
             return None;
         }

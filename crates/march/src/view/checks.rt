@@ -6,7 +6,7 @@ ghost use Rattle.march.specs.Checks.{way_in, ways_in, plain_in};
 use super::{View, ViewFault, ViewNumbers};
 use lattice::Point;
 use lattice::direction::Direction;
-use refusal::range::in_range;
+use refusal::range::{count_in, in_range};
 
 /// The parts of an origin.
 pub const LEAST_PART: i32 = -16384;
@@ -23,7 +23,7 @@ pub const MOST_FAR: i32 = 4095;
 fn count(n: i32, least: i32, most: i32, place: u32) -> Result<u32, ViewFault>
     ensures { result ≡ count_answer least most n place }
 {
-    Ok(in_range(n, least, most, place)?.unsigned_abs())
+    Ok(count_in(n, least, most, place)?)
 }
 
 /// The direction of the row at a place.
@@ -42,7 +42,8 @@ fn part(n: i32, place: u32) -> Result<i32, ViewFault>
     Ok(in_range(n, LEAST_PART, MOST_PART, place)?)
 }
 
-/// The numbers at places 1 to 3.
+/// The numbers at places 1 to 3. Three crates test a point's parts so: what they share is `in_range`, and one
+/// function of the three tests would save two lines and want a first place of a type that has two after it.
 #[tactic(auto, unfolding(crate::specs::Checks::origin_answer))]
 fn origin(n: ViewNumbers) -> Result<Point, ViewFault>
     ensures { result ≡ origin_answer n }

@@ -7,6 +7,8 @@ use crate::moved;
 use crate::rays::Ray;
 use lattice::Point;
 
+// A pixel is named by two numbers, here and in the calls of rays and plates: a type for the pair would ask
+// of each caller to make one.
 impl View {
     /// How many pixels the view has.
     pub fn pixels(&self) -> usize

@@ -1,7 +1,8 @@
-use Rattle.std.proofs.Common.{◌≡◌, ◌+◌, ◌*◌, get_or, ap, ◌∙◌, arith}
-use lib.Seq.{paste}
+use Rattle.std.proofs.Common.{◌≡◌, ◌+◌, get_or, ap, ◌∙◌, arith}
 use Rattle.march.specs.March.{fresh}
-use Rattle.words.specs.Words.{four, image_word, number_word}
+use Rattle.words.specs.Words.{image_word, number_word}
+use Rattle.words.specs.Writing.{with_word}
+use Rattle.words.proofs.Written.{put_made}
 use Rattle.plate_log.proofs.Sanity.{sane_at, sane_more}
 use Rattle.plate_log.proofs.Bytes.{put_more, put_all}
 use Rattle.plate.proofs.put_image.Goals as goal
@@ -14,16 +15,18 @@ word_of-requires c =
 
 pub loop-k-preserved : goal.loop-k-preserved
 loop-k-preserved c =
+    let k = 2 + c.loop-k.k in
     put_more c.args.view c.args.pixels.now c.loop-k.out c.put-2.new.out c.put-in-loop-k.new.out c.loop-k.k c.loop-k-test.true c.loop-k.invariant
-    (c.put-in-loop-k.ensures ∙ ap (λ w. paste c.loop-k.out (4 * (2 + c.loop-k.k)) (four w) 4) c.word_of.ensures)
+    (put_made k c.word_of.result c.loop-k.out c.put-in-loop-k.new.out c.put-in-loop-k.result c.unwrap-in-loop-k.result c.put-in-loop-k.ensures c.unwrap-in-loop-k.ensures
+    ∙ ap (λ w. with_word k w c.loop-k.out) c.word_of.ensures)
 
 pub returns : goal.returns
 returns c =
     let v = c.args.view in
-    let start : c.word.result ≡ image_word v.width v.height = omega (arith, c.word.ensures, v.wide, v.high) in
-    let far : c.word-2.result ≡ number_word v.far = omega (arith, c.word-2.ensures, v.close) in
+    let start : c.word-start.result ≡ image_word v.width v.height = omega (arith, c.word-start.ensures, v.wide, v.high) in
+    let far : c.word.result ≡ number_word v.far = omega (arith, c.word.ensures, v.close) in
     put_all v c.args.pixels.now c.loop-k.out c.put.new.out c.put-2.new.out c.args.out.now c.loop-k.k
     c.loop-k-test.false c.loop-k.auto.k-end
-    (c.put.ensures ∙ ap (λ w. paste c.args.out.now 0 (four w) 4) start)
-    (c.put-2.ensures ∙ ap (λ w. paste c.put.new.out 4 (four w) 4) far)
+    (put_made 0 c.word-start.result c.args.out.now c.put.new.out c.put.result c.unwrap.result c.put.ensures c.unwrap.ensures ∙ ap (λ w. with_word 0 w c.args.out.now) start)
+    (put_made 1 c.word.result c.put.new.out c.put-2.new.out c.put-2.result c.unwrap-2.result c.put-2.ensures c.unwrap-2.ensures ∙ ap (λ w. with_word 1 w c.put.new.out) far)
     c.loop-k.invariant

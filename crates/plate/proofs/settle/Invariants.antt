@@ -1,13 +1,9 @@
-use Rattle.std.proofs.Common.{◌≡◌, ◌-◌, ◌≤◌, true}
+use Rattle.std.proofs.Common.{◌≡◌, ◌-◌, true}
 use Rattle.march.specs.March.{sane, settled}
 use Rattle.plate_log.specs.Log.{clear_along}
 use Rattle.plate.proofs.settle.Given as goal
 
-abbrev pub invariant-loop-pixel : goal.invariant-loop-pixel
-invariant-loop-pixel g l =
+abbrev pub invariant-loop-spent : goal.invariant-loop-spent
+invariant-loop-spent g l =
     let clear = clear_along (g.S.Solid.body l.solid.solid.now) l.ray in
-    (l.spent ≤ l.budget) × (sane l.ray.far l.pixel ≡ true)
-    × (settled clear l.ray.far (l.budget - l.spent) l.pixel ≡ settled clear l.ray.far l.budget l.initial.pixel)
-
-abbrev pub decreases-loop-pixel : goal.decreases-loop-pixel
-decreases-loop-pixel g l = l.budget - l.spent
+    (sane l.ray.far l.pixel ≡ true) × (settled clear l.ray.far (l.budget - l.spent) l.pixel ≡ settled clear l.ray.far l.budget l.initial.pixel)

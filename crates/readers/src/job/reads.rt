@@ -7,7 +7,7 @@ ghost use Rattle.readers.specs.JobsBack.{JobsReadBack};
 
 use super::{Job, JobFault};
 use geometry::ordered;
-use layers::{OFFSET_MOST, THICKEN_LEAST, THICKEN_MOST};
+use layers::{LEAST_THICKNESS, MOST_OFFSET, MOST_THICKNESS};
 use leaves::axis_box::AxisBox;
 use leaves::fault::{LEAST_COORDINATE, MOST_COORDINATE};
 use march::view::ViewNumbers;
@@ -16,28 +16,22 @@ use words::fault::WordFault;
 use words::kind::Kind;
 use words::reader::Reader;
 
-// Each reads by a copy of the reader, which it stores back once all is accepted; a closure over the
-// copy would take as many lines.
-
 /// Reads the numbers of the view.
 #[tactic(auto, unfolding(crate::specs::Jobs::view_at, crate::specs::Jobs::rows_at, crate::specs::Jobs::sizes_at))]
 fn view(from: &mut Reader<'_>) -> Result<ViewNumbers, WordFault>
     requires { place from.old ≡ 1 }
     ensures value { result ≡ view_at (text from.old) }
-    ensures moved { Moved result 9 from.old from.new }
+    ensures moved { OnOk result (Moved result 9 from.old from.new) }
 {
-    let mut ahead = *from;
-    let view = ViewNumbers {
-        origin: ahead.point(LEAST_PART, MOST_PART)?,
-        ray: ahead.row()?,
-        across: ahead.row()?,
-        down: ahead.row()?,
-        width: ahead.number_in(1, MOST_SIDE)?,
-        height: ahead.number_in(1, MOST_SIDE)?,
-        far: ahead.number_in(0, MOST_FAR)?,
-    };
-    *from = ahead;
-    Ok(view)
+    Ok(ViewNumbers {
+        origin: from.point(LEAST_PART, MOST_PART)?,
+        ray: from.row()?,
+        across: from.row()?,
+        down: from.row()?,
+        width: from.number_in(1, MOST_SIDE)?,
+        height: from.number_in(1, MOST_SIDE)?,
+        far: from.number_in(0, MOST_FAR)?,
+    })
 }
 
 /// Reads a job, which begins at the word that is due. A refused one leaves the reader as it was.
@@ -49,12 +43,14 @@ pub fn read_job(from: &mut Reader<'_>) -> Result<Job, JobFault>
     ensures same { OnErr result (from.new ≡ from.old) }
     ensures back { JobsReadBack }
 {
+    // By a copy, so that a refused job leaves the reader where it was; a closure over the copy would take
+    // as many lines.
     let mut ahead = *from;
     ahead.next_part();
     ahead.bare_of(Kind::Job)?;
     let view = view(&mut ahead)?;
-    let guard = ahead.number_in(THICKEN_LEAST, THICKEN_MOST)?;
-    let shift = ahead.point(-OFFSET_MOST, OFFSET_MOST)?;
+    let guard = ahead.number_in(LEAST_THICKNESS, MOST_THICKNESS)?;
+    let shift = ahead.point(-MOST_OFFSET, MOST_OFFSET)?;
     let lo = ahead.point(LEAST_COORDINATE, MOST_COORDINATE)?;
     let hi = ahead.point(LEAST_COORDINATE, MOST_COORDINATE)?;
     if !ordered(lo, hi) {

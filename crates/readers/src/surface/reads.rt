@@ -1,55 +1,37 @@
 //! The reader of a surface.
 ghost use Rattle.std.specs.Prelude.{◌≡◌, ◌+◌, ◌*◌, ◌≤◌, length, take, IfOk, OnErr, OnOk};
 ghost use Rattle.std.specs.Result.{result_map_both};
-ghost use Rattle.readers.specs.Surfaces.{size_of, side, heights_at, surface_of, put_into};
+ghost use Rattle.readers.specs.Surfaces.{size_of, heights_at, surface_of, put_into};
 ghost use Rattle.words.specs.Reading.{held};
 ghost use Rattle.words.specs.Cursor.{text, place, ahead, Moved, Begun};
 ghost use Rattle.readers.specs.SurfacesBack.{SurfacesReadBack};
 
 use super::{SurfaceReadFault, SurfaceSize};
+use leaves::surface::Sheet;
 use words::fault::WordFault;
-use words::kind::Kind;
+use words::kind::{FIRST_OF_TWO, Kind};
 use words::reader::Reader;
 
-/// The start word has the depth in its low 16 bits, and the width above them.
-const DEPTHS: u32 = 0x1_0000;
-/// The most columns on a side, and in all.
-const MOST_COLUMNS: u32 = 64;
-
+/// The most columns of a surface, and so its most heights.
 pub const MOST_HEIGHTS: usize = 4096;
-
-fn is_side(n: u32) -> bool
-    ensures { result ≡ side n }
-{
-    (1..=MOST_COLUMNS).contains(&n)
-}
-
-// `size` and `read_surface` read by a copy of the reader, which they store back once all is accepted; a
-// closure over the copy would take as many lines.
 
 /// Reads the start word.
 #[tactic(auto, using(crate::proofs::Sheets::few), unfolding(crate::specs::Surfaces::size_of))]
 fn size(from: &mut Reader<'_>, room: usize) -> Result<SurfaceSize, SurfaceReadFault>
     requires { place from.old ≡ 0 }
     ensures value { result ≡ size_of (text from.old) room }
-    ensures moved { Moved result 1 from.old from.new }
+    ensures moved { OnOk result (Moved result 1 from.old from.new) }
     ensures few { IfOk result (λ s. s.width * s.depth ≤ 4096) }
     ensures fits { IfOk result (λ s. s.width * s.depth ≤ room) }
 {
-    let mut ahead = *from;
-    let sides = ahead.rest_of(Kind::Surface)?;
-    let size = SurfaceSize {
-        width: sides / DEPTHS,
-        depth: sides % DEPTHS,
-    };
-    if !is_side(size.width) || !is_side(size.depth) {
-        return Err(SurfaceReadFault::Size);
-    }
-    if room < size.columns() {
-        return Err(SurfaceReadFault::Buffer);
-    }
-    *from = ahead;
-    Ok(size)
+    let sides = from.rest_of(Kind::Surface)?;
+    let width = (sides / FIRST_OF_TWO) as i32;
+    let depth = (sides % FIRST_OF_TWO) as i32;
+    let sheet = Sheet::for_room(width, depth, room)?;
+    Ok(SurfaceSize {
+        width: sheet.width,
+        depth: sheet.depth,
+    })
 }
 
 /// Reads the heights of the columns of a sheet.
@@ -77,6 +59,8 @@ pub fn read_surface(
     ensures same { OnErr result (from.new ≡ from.old) }
     ensures back { SurfacesReadBack }
 {
+    // By a copy, so that a refused surface leaves the reader where it was; a closure over the copy would
+    // take as many lines.
     let mut ahead = *from;
     ahead.next_part();
     let size = size(&mut ahead, buffer.len())?;

@@ -8,10 +8,10 @@ ghost use Rattle.scene.specs.Laid.{ball_on, box_on, two_on, shift_on, thicken_on
 ghost use Rattle.scene.specs.Known.{last_of, last_two, only};
 ghost use Rattle.scene.specs.States.{state, room, lay};
 
-use super::super::node::{Join, Node, Summary};
-use super::super::stack::Stack;
-use super::super::table::{MOST_NODES, Table};
 use super::{Draft, DraftFault};
+use crate::node::{Join, Node, Summary};
+use crate::stack::Stack;
+use crate::table::{MOST_NODES, Table};
 use lattice::Point;
 use layers::{check_offset, check_thickness};
 use leaves::axis_box::AxisBox;

@@ -5,8 +5,8 @@ ghost use Rattle.scene.specs.Standing.{origin};
 ghost use Rattle.scene.specs.Scenes.{scene_body, scene_lawful};
 ghost use Rattle.scene.specs.Exacts.{exact_scene_body, filled_exact};
 
-use super::super::Scene;
 use super::{ExactFault, ExactScene};
+use crate::Scene;
 use lattice::Point;
 use solid::{Exact, QuestionFault, Solid};
 
@@ -22,7 +22,7 @@ impl ExactScene {
 
     /// Becomes that scene where it is exact. Another is refused with 15, and this one stays what it
     /// was.
-    // It writes where the caller keeps a scene, which holds its table; a `TryFrom` would hand out a copy.
+    // No `TryFrom`: it is a scene of the caller's that is filled or, refused, stays, which the clauses say.
     pub fn fill(&mut self, scene: &Scene) -> Result<(), ExactFault>
         ensures value { (result, exact_scene_body self.new) ≡ filled_exact (scene_body scene.now) (exact_scene_body self.old) }
         ensures same { OnErr result (self.new ≡ self.old) }

@@ -8,6 +8,7 @@ ghost use Rattle.words.specs.Cursor.{text, place, ahead, Moved};
 use super::Reader;
 use crate::fault::WordFault;
 use crate::kind::{Kind, WORDS};
+use crate::writing::WORD;
 use lattice::Point;
 use lattice::direction::Direction;
 
@@ -27,7 +28,7 @@ impl<'a> Reader<'a> {
         ensures text { text self.new ≡ ahead self.old }
         ensures place { place self.new ≡ 0 }
     {
-        self.bytes = &self.bytes[4 * self.at..];
+        self.bytes = &self.bytes[WORD * self.at..];
         self.at = 0;
     }
 
@@ -42,7 +43,7 @@ impl<'a> Reader<'a> {
     pub fn at_end(&self) -> bool
         ensures { result ≡ (length (ahead self.now) == 0) }
     {
-        self.bytes.len() == 4 * self.at
+        self.bytes.len() == WORD * self.at
     }
 
     /// The word that is due, which stays due.
@@ -50,14 +51,14 @@ impl<'a> Reader<'a> {
     fn peek(&self) -> Result<u32, WordFault>
         ensures { result ≡ word_at (text self.now) (place self.now) }
     {
-        let Some(bytes) = self.bytes[4 * self.at..].first_chunk() else {
+        let Some(bytes) = self.bytes[WORD * self.at..].first_chunk() else {
             return Err(WordFault::Short { place: self.at });
         };
         Ok(u32::from_le_bytes(*bytes))
     }
 
     /// The word that is due, of a kind from least to most: its kind, and its other 28 bits. Any two
-    /// numbers may be asked for, also those of no kind.
+    /// numbers may be asked for, also those of no kind, so that they are no `Kind`s.
     #[tactic(auto, unfolding(crate::specs::Reading::kind_at, crate::specs::Reading::word_at))]
     pub fn word(&mut self, least: u32, most: u32) -> Result<(u32, u32), WordFault>
         ensures value { result ≡ kind_at (text self.old) (place self.old) least most }
@@ -83,6 +84,7 @@ impl<'a> Reader<'a> {
     }
 
     /// The word that is due, of a kind from least to most, whose other bits all are unnamed: its kind.
+    /// Any two numbers may be asked for here too, so that they are no `Kind`s.
     #[tactic(auto, unfolding(crate::specs::Reading::bare_at))]
     pub fn bare(&mut self, least: u32, most: u32) -> Result<u32, WordFault>
         ensures value { result ≡ bare_at (text self.old) (place self.old) least most }

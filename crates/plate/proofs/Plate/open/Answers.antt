@@ -2,7 +2,7 @@ use Rattle.std.proofs.Common.{◌++◌, drop, replicate, ap, ◌∙◌, length-t
 use Rattle.march.specs.March.{fresh}
 use Rattle.plate_log.specs.Log.{area}
 use Rattle.plate_log.proofs.Upshot.{whole}
-use Rattle.plate_log.proofs.Calls.{new_room, new_front, new_sound}
+use Rattle.plate_log.proofs.Calls.{new_room, new_sound}
 use Rattle.plate.proofs.Plate.open.Goals as goal
 
 pub returns-in_err-view-clause-whole : goal.returns-in_err-view-clause-whole
@@ -19,13 +19,6 @@ invariant_of-self c =
     let now = c.renew.new.pixels ++ drop n rs in
     let is = ap (λ ps. ps ++ drop n rs) (c.renew.ensures ∙ ap (λ k. replicate k fresh) (length-take-le n rs (omega arith))) ∙ ap (λ k. replicate k fresh ++ drop k rs) c.pixels-n.ensures in
     record { room = new_room (area v) now rs (omega (arith, c.pixels-n.ensures)) is; sound = new_sound v.far (area v) now rs is }
-
-pub returns-clause-begins : goal.returns-clause-begins
-returns-clause-begins c =
-    let n = c.pixels-n.result in
-    let rs = c.args.self.now.records.now in
-    let is = ap (λ ps. ps ++ drop n rs) (c.renew.ensures ∙ ap (λ k. replicate k fresh) (length-take-le n rs (omega arith))) ∙ ap (λ k. replicate k fresh ++ drop k rs) c.pixels-n.ensures in
-    new_front (area c.in_ok-view.view) (c.renew.new.pixels ++ drop n rs) rs is
 
 pub returns-clause-whole : goal.returns-clause-whole
 returns-clause-whole c = whole

@@ -1,8 +1,8 @@
-use Rattle.std.proofs.Common.{◌≡◌, Ok, Err, sym, ap, ◌∙◌, arith, rules}
+use Rattle.std.proofs.Common.{◌≡◌, Ok, Err, sym, ◌∙◌, arith, rules}
 use Rattle.words.specs.Cursor.{text, place}
 use Rattle.scene.specs.States.{state}
 use Rattle.scene_reader.specs.Scenes.{node_at}
-use Rattle.scene_reader.proofs.Turns.{at_end, stop, go_on, start}
+use Rattle.scene_reader.proofs.Turns.{at_end, stop, go_on}
 use Rattle.scene_reader.proofs.reads.nodes.Goals as goal
 
 pub loop-from-preserved : goal.loop-from-preserved

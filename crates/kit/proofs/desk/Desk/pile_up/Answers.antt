@@ -28,11 +28,6 @@ held : {A P : Type 0} (o : Option A) (low : Type 0) (same : A → Type 0) → is
 held (Some a) low same h m f = f a m
 held None low same h m f = let z : ◌≡◌ {A = ℕ} 0 1 = cc in absurd (omega arith)
 
-pub unwrap-moved-requires : goal.unwrap-moved-requires
-unwrap-moved-requires g c =
-    let j = c.args.job.now in
-    ap is_ok (c.new.ensures ∙ shift_stands (g.T.Solid.body c.args.sheet).reach j.shift _ j.near c.requires.far)
-
 pub unwrap-pile-requires : goal.unwrap-pile-requires
 unwrap-pile-requires g c = sym (ok_mapped _ _ c.new-3.result) ∙ ap is_ok c.new-3.ensures
 

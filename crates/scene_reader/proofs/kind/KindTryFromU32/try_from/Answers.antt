@@ -1,5 +1,5 @@
-use Rattle.std.proofs.Common.{◌≡◌, Err, sym, refl, ◌∙◌, rules}
-use Rattle.scene_reader.proofs.Named.{no_word, no_node}
+use Rattle.std.proofs.Common.{◌≡◌, Err, ◌∙◌, rules}
+use Rattle.scene_reader.proofs.Named.{no_word}
 use Rattle.scene_reader.proofs.kind.KindTryFromU32.try_from.Goals as goal
 
 pub returns-in_err-try_from : goal.returns-in_err-try_from

@@ -1,0 +1,11 @@
+-- A word as it is written among the bytes.
+use Rattle.std.specs.Prelude.{ℕ, ◌+◌, ◌*◌, cond, nat_lt, List, ◌++◌, length, take, drop, Option, None, Some, ⊤}
+use Rattle.words.specs.Words.{four}
+
+-- the bytes with their word k made this one; those before it and after it stay
+abbrev pub with_word : (k word : ℕ) → List ℕ → List ℕ
+with_word k w bs = (take (4 * k) bs ++ four w) ++ drop (4 * k + 4) bs
+
+-- word k is put; where there is none, the bytes stay as they were
+abbrev pub word_put : (k word : ℕ) → List ℕ → Option ⊤ × List ℕ
+word_put k w bs = cond (nat_lt (length bs) (4 * (k + 1))) (None, bs) (Some tt, with_word k w bs)
