@@ -1,7 +1,8 @@
 -- A direction, by its three parts.
-use Rattle.std.specs.Prelude.{ℤ, Some, None, Option}
+use Rattle.std.specs.Prelude.{ℤ, Ok, Err, Result}
 use Rattle.lattice.specs.declared.direction.Direction.{Direction}
+use Rattle.lattice.specs.declared.direction.rows.NoRow.{NoRow}
 
-abbrev pub parts : Option Direction → Option (ℤ × ℤ × ℤ)
-parts (Some d) = Some (d.x, d.y, d.z)
-parts None = None
+abbrev pub parts : Result Direction NoRow → Result (ℤ × ℤ × ℤ) NoRow
+parts (Ok d) = Ok (d.x, d.y, d.z)
+parts (Err fault) = Err fault

@@ -1,7 +1,8 @@
 -- The lattice: points of three whole numbers, and their distance.
-use Rattle.std.specs.Prelude.{ℕ, ◌≤◌, max, Bool, ◌&&◌, ℤ, ◌+ℤ◌, ◌-ℤ◌, nat_le, unsigned_abs, FitsSigned}
-use Rattle.std.specs.Int.{w32}
+use Rattle.std.specs.Prelude.{ℕ, ◌≤◌, ◌≤ℤ◌, max, Bool, ◌&&◌, ℤ, ◌+ℤ◌, ◌-ℤ◌, nat_le, unsigned_abs, FitsSigned}
+use Rattle.std.specs.Int.{w32, int_wrapping_sub}
 use Rattle.lattice.specs.declared.Point.{Point}
+use Rattle.lattice.specs.declared.TheConstants.{LEAST_COORDINATE, MOST_COORDINATE}
 
 -- how far apart two whole numbers are
 abbrev pub gap : ℤ → ℤ → ℕ
@@ -29,6 +30,15 @@ ahead v p = record { x = p.x +ℤ v.x; y = p.y +ℤ v.y; z = p.z +ℤ v.z }
 abbrev pub back : Point → Point → Point
 back v p = record { x = p.x -ℤ v.x; y = p.y -ℤ v.y; z = p.z -ℤ v.z }
 
+-- the same in 32 bits, where a part that they do not hold wraps around
+abbrev pub back_wrapped : Point → Point → Point
+back_wrapped v p = record { x = int_wrapping_sub w32 p.x v.x; y = int_wrapping_sub w32 p.y v.y; z = int_wrapping_sub w32 p.z v.z }
+
 -- is each part one that 32 bits hold?
 abbrev pub Held : Point → Type 0
 Held p = FitsSigned w32 p.x × FitsSigned w32 p.y × FitsSigned w32 p.z
+
+-- a point at which a ball, a box or a view may be placed: each coordinate is one that its centre, its corner or its origin may have
+abbrev pub IsPlacement : Point → Type 0
+IsPlacement p =
+    (LEAST_COORDINATE ≤ℤ p.x) × (p.x ≤ℤ MOST_COORDINATE) × (LEAST_COORDINATE ≤ℤ p.y) × (p.y ≤ℤ MOST_COORDINATE) × (LEAST_COORDINATE ≤ℤ p.z) × (p.z ≤ℤ MOST_COORDINATE)

@@ -2,10 +2,16 @@
 //! the directions in which a probe may travel.
 #![tactic(auto)]
 
-ghost use Rattle.std.specs.Prelude.{◌≡◌, ℕ, ◌+◌, ◌≤◌, SomeIff};
-ghost use Rattle.lattice.specs.Space.{dist, norm, within, back, Held};
+ghost use Rattle.std.specs.Prelude.{◌≡◌, ℕ, ◌+◌, ◌≤◌};
+ghost use Rattle.lattice.specs.Space.{dist, norm, within, back, back_wrapped, Held};
 
 pub mod direction;
+
+/// The coordinates of a ball's centre, a box's corners and a view's origin lie in
+/// -16,384..=16,383.
+pub const LEAST_COORDINATE: i32 = -16_384;
+
+pub const MOST_COORDINATE: i32 = 16_383;
 
 /// A point of the lattice.
 #[derive(Clone, Copy, PartialEq, Eq, Debug)]
@@ -51,14 +57,16 @@ impl Point {
             && self.z.unsigned_abs() <= reach
     }
 
-    /// The point from which `by` leads here; none where a coordinate of it is no `i32`.
-    pub fn checked_sub(self, by: Point) -> Option<Point>
-        ensures { SomeIff result (Held (back by self)) (back by self) }
+    /// The point from which `by` leads here. A coordinate that no `i32` holds wraps around.
+    #[inline(always)]
+    pub fn wrapping_sub(self, by: Point) -> Point
+        ensures value { result ≡ back_wrapped by self }
+        ensures held { Held (back by self) → result ≡ back by self }
     {
-        Some(Point {
-            x: self.x.checked_sub(by.x)?,
-            y: self.y.checked_sub(by.y)?,
-            z: self.z.checked_sub(by.z)?,
-        })
+        Point {
+            x: self.x.wrapping_sub(by.x),
+            y: self.y.wrapping_sub(by.y),
+            z: self.z.wrapping_sub(by.z),
+        }
     }
 }

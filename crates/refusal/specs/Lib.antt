@@ -1,3 +1,5 @@
 pub mod Numbers
 pub mod Pairs
 pub mod Ranges
+pub mod Sentences
+pub mod Texts

@@ -3,6 +3,8 @@
 
 ghost use Rattle.std.specs.Prelude.{◌≡◌, ℕ};
 ghost use Rattle.refusal.specs.Numbers.{rule_number};
+ghost use Rattle.refusal.specs.Sentences.{rule_sentence};
+ghost use Rattle.refusal.specs.Texts.{rule_of, EachIsFound};
 
 pub mod range;
 pub mod told;
@@ -54,12 +56,75 @@ pub enum Rule {
     NoRoom = 21,
 }
 
+/// The rules, in the order of their numbers.
+const RULES: [Rule; 21] = [
+    Rule::Short,
+    Rule::Kind,
+    Rule::Unnamed,
+    Rule::Range,
+    Rule::Row,
+    Rule::Corners,
+    Rule::Count,
+    Rule::Full,
+    Rule::TooFew,
+    Rule::Inexact,
+    Rule::PastReach,
+    Rule::Unfinished,
+    Rule::Size,
+    Rule::Left,
+    Rule::Guard,
+    Rule::Shallow,
+    Rule::BeyondReach,
+    Rule::Buffer,
+    Rule::NoPixel,
+    Rule::StillMarching,
+    Rule::NoRoom,
+];
+
 impl Rule {
+    /// The rule of that number. Each rule has one of its own.
+    #[tactic(auto, using(crate::proofs::Found::found))]
+    pub(crate) fn of(number: u32) -> Option<Rule>
+        ensures value { result ≡ rule_of number }
+        ensures each { EachIsFound }
+    {
+        RULES.iter().copied().find(|rule| rule.number() == number)
+    }
+
     /// The number under which a breach of the rule is told.
     pub fn number(self) -> u32
         ensures { result ≡ rule_number self }
     {
         self as u32
+    }
+
+    /// What a breach of the rule is, in plain words.
+    pub fn sentence(self) -> &'static str
+        ensures { result.now ≡ rule_sentence self }
+    {
+        match self {
+            Rule::Short => "the input ends where a word is due",
+            Rule::Kind => "no word of this kind is due here",
+            Rule::Unnamed => "a bit is set that has no name",
+            Rule::Range => "a number is outside its range",
+            Rule::Row => "a number names no direction",
+            Rule::Corners => "the box's lower corner is above its upper one on an axis",
+            Rule::Count => "the scene's count of words is outside 1 to 1,792",
+            Rule::Full => "the scene has 256 nodes already",
+            Rule::TooFew => "fewer nodes stand than this node takes",
+            Rule::Inexact => "the node to be thickened is not exact",
+            Rule::PastReach => "the shift passes the reach of what it shifts",
+            Rule::Unfinished => "the scene does not end as one whole node",
+            Rule::Size => "the surface's width or depth is outside 1 to 64",
+            Rule::Left => "bytes are left after the surface",
+            Rule::Guard => "the scene is not exact, which a guard needs",
+            Rule::Shallow => "the solid's reach is under 32,767",
+            Rule::BeyondReach => "the point is beyond the solid's reach",
+            Rule::Buffer => "too few records or heights are lent",
+            Rule::NoPixel => "the view has no such pixel",
+            Rule::StillMarching => "a pixel still marches",
+            Rule::NoRoom => "too few bytes are lent to write into",
+        }
     }
 }
 

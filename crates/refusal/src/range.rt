@@ -1,8 +1,11 @@
 //! Numbers that have to lie in a range.
-ghost use Rattle.std.specs.Prelude.{◌≡◌};
+ghost use Rattle.std.specs.Prelude.{◌≡◌, Some};
 ghost use Rattle.refusal.specs.Ranges.{in_range, count_in, range_told};
+ghost use Rattle.refusal.specs.Texts.{refusal_text};
 
+use super::told::Told;
 use super::{Refusal, Rule};
+use std::fmt;
 
 /// Why a number is refused: 4, at its place.
 #[derive(Clone, Copy, PartialEq, Eq, Debug)]
@@ -22,9 +25,15 @@ impl Refusal for OutOfRange {
     }
 }
 
-/// The number, which stands at that place, if it lies in `least..=most`. The bounds are two numbers,
-/// as in `Reader::number_in`: the value of a constant cannot be the library's range, so that a range would be
-/// made of the same two at each call.
+impl fmt::Display for OutOfRange {
+    ghost output = { λ fault. Some (refusal_text (range_told fault)) };
+
+    fn fmt<W: fmt::Write>(&self, f: &mut fmt::Formatter<W>) -> fmt::Result {
+        Told::of(self).fmt(f)
+    }
+}
+
+/// The number, which stands at that place, if it lies in `least..=most`.
 pub fn in_range(n: i32, least: i32, most: i32, place: u32) -> Result<i32, OutOfRange>
     ensures { result ≡ in_range n least most place }
 {

@@ -25,12 +25,16 @@ word_at bs k =
     unless (nat_le (4 * k + 4) (length bs)) (Short k)
     (Ok (slice_index bs (4 * k) + slice_index bs (4 * k + 1) * 256 + slice_index bs (4 * k + 2) * 65536 + slice_index bs (4 * k + 3) * 16777216))
 
--- a word whose kind is from least to most: its kind, and its other 28 bits
+-- a word's kind, and its other 28 bits
+abbrev pub halves : ℕ → ℕ × ℕ
+halves w = (w / 268435456, w % 268435456)
+
+-- a word whose kind is from least to most
 unfoldable pub kind_at : List ℕ → (place least most : ℕ) → Result (ℕ × ℕ) WordFault
 kind_at bs k least most =
     and_then (word_at bs k) (λ w.
     unless (nat_le least (w / 268435456) && nat_le (w / 268435456) most) (Kind k)
-    (Ok (w / 268435456, w % 268435456)))
+    (Ok (halves w)))
 
 -- such a word of one kind: its other 28 bits
 abbrev pub rest_at : List ℕ → (place kind : ℕ) → Result ℕ WordFault

@@ -1,8 +1,11 @@
 //! Why a word is refused.
-ghost use Rattle.std.specs.Prelude.{◌≡◌};
+ghost use Rattle.std.specs.Prelude.{◌≡◌, Some};
+ghost use Rattle.refusal.specs.Texts.{refusal_text};
 ghost use Rattle.words.specs.Told.{word_told, place_told};
 
+use refusal::told::Told;
 use refusal::{Refusal, Rule};
+use std::fmt;
 
 /// Why a word is refused. Its place is counted in words from 0, at the first word of its part.
 #[derive(Clone, Copy, PartialEq, Eq, Debug)]
@@ -47,5 +50,13 @@ impl Refusal for WordFault {
             | WordFault::Range { place }
             | WordFault::Row { place } => tell(*place),
         }
+    }
+}
+
+impl fmt::Display for WordFault {
+    ghost output = { λ fault. Some (refusal_text (word_told fault)) };
+
+    fn fmt<W: fmt::Write>(&self, f: &mut fmt::Formatter<W>) -> fmt::Result {
+        Told::of(self).fmt(f)
     }
 }

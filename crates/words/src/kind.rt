@@ -1,6 +1,12 @@
 //! The kinds of words.
-ghost use Rattle.std.specs.Prelude.{◌≡◌};
+ghost use Rattle.std.specs.Prelude.{◌≡◌, Some};
+ghost use Rattle.refusal.specs.Texts.{refusal_text};
+ghost use Rattle.words.specs.Told.{kind_told};
 ghost use Rattle.words.specs.Kinds.{kind_number, kind_word, Names};
+
+use refusal::told::Told;
+use refusal::{Refusal, Rule};
+use std::fmt;
 
 /// What a word is. Its number stands in the word's bits 31..28.
 #[derive(Clone, Copy, PartialEq, Eq, Debug)]
@@ -35,9 +41,29 @@ pub enum Kind {
     Refusal = 14,
 }
 
-/// A number that names no kind of word.
+/// Why a number is refused as a kind: 2, since it names none that is due.
 #[derive(Clone, Copy, PartialEq, Eq, Debug)]
 pub struct UnknownKind(pub u32);
+
+impl Refusal for UnknownKind {
+    ghost told = { kind_told };
+
+    fn number(&self) -> u32 {
+        Rule::Kind.number()
+    }
+
+    fn place(&self) -> u32 {
+        0
+    }
+}
+
+impl fmt::Display for UnknownKind {
+    ghost output = { λ fault. Some (refusal_text (kind_told fault)) };
+
+    fn fmt<W: fmt::Write>(&self, f: &mut fmt::Formatter<W>) -> fmt::Result {
+        Told::of(self).fmt(f)
+    }
+}
 
 /// How many words there are of a kind: bits 31..28 of a word are its kind's number, and the other 28
 /// are its rest.

@@ -1,9 +1,13 @@
 //! The table of directions.
-ghost use Rattle.std.specs.Prelude.{◌≡◌, ◌<◌, ◌≢◌};
-ghost use Rattle.lattice.specs.Rows.{triple, row_of, Rule};
+ghost use Rattle.std.specs.Prelude.{◌≡◌, ◌<◌, ◌≢◌, Some};
+ghost use Rattle.refusal.specs.Texts.{refusal_text};
+ghost use Rattle.lattice.specs.Rows.{triple, row_answer, row_told, TableRule};
 ghost use Rattle.lattice.specs.Parts.{parts};
 
 use super::Direction;
+use refusal::told::Told;
+use refusal::{Refusal, Rule};
+use std::fmt;
 
 /// Row 9a + 3b + c, with a, b and c in 0..2, is (a - 1, b - 1, c - 1).
 const DIRECTIONS: [(i32, i32, i32); 27] = [
@@ -39,6 +43,32 @@ const DIRECTIONS: [(i32, i32, i32); 27] = [
 /// The row that does not move.
 const STILL: usize = 13;
 
+/// Why a number is refused: 5, at its place.
+#[derive(Clone, Copy, PartialEq, Eq, Debug)]
+pub struct NoRow {
+    pub place: u32,
+}
+
+impl Refusal for NoRow {
+    ghost told = { row_told };
+
+    fn number(&self) -> u32 {
+        Rule::Row.number()
+    }
+
+    fn place(&self) -> u32 {
+        self.place
+    }
+}
+
+impl fmt::Display for NoRow {
+    ghost output = { λ fault. Some (refusal_text (row_told fault)) };
+
+    fn fmt<W: fmt::Write>(&self, f: &mut fmt::Formatter<W>) -> fmt::Result {
+        Told::of(self).fmt(f)
+    }
+}
+
 fn triple(k: usize) -> (i32, i32, i32)
     requires { k < 27 }
     ensures { result ≡ triple k }
@@ -55,15 +85,15 @@ fn way(k: usize) -> Direction
 }
 
 impl Direction {
-    /// The direction of a row of the table; none outside 0..26, and none at 13, which does not move.
-    pub fn of_row(row: i32) -> Option<Direction>
-        ensures value { parts result ≡ row_of row }
-        ensures rule { Rule }
+    /// The direction of the row that the number at this place names; none is named outside 0..26,
+    /// nor at 13, which does not move.
+    pub fn of_row(n: i32, place: u32) -> Result<Direction, NoRow>
+        ensures value { parts result ≡ row_answer n place }
+        ensures rule { TableRule }
     {
-        let k = usize::try_from(row).ok()?;
-        if k >= DIRECTIONS.len() || k == STILL {
-            return None;
+        match usize::try_from(n) {
+            Ok(k) if k < DIRECTIONS.len() && k != STILL => Ok(way(k)),
+            _ => Err(NoRow { place }),
         }
-        Some(way(k))
     }
 }
