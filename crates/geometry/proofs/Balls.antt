@@ -1,16 +1,14 @@
--- The ball's body is lawful and exact, and what the ball answers.
-use Rattle.std.proofs.Common.{◌≡◌, ℕ, ◌+◌, ◌-◌, ◌*◌, ◌/◌, ◌<◌, ◌≤◌, max, true, false, leb, ℤ, nat_abs, Ok, Err, sym, ap, ◌∙◌, ⊎_elim, mul-le-mul, arith}
+-- The ball's body is lawful and exact.
+use Rattle.std.proofs.Common.{◌≡◌, ℕ, ◌+◌, ◌-◌, ◌*◌, ◌/◌, ◌<◌, ◌≤◌, max, true, false, leb, ℤ, nat_abs, sym, ap, ◌∙◌, ⊎_elim, mul-le-mul, arith}
 use native.Mathlib.Nat.{sub-zero}
 use borrow.Author.Differences.{ints}
-use Rattle.std.proofs.lemmas.Bool.{leb-true, le-leb, lt-leb, cases_lt, cond-true}
-use Rattle.lattice.specs.Space.{gap, dist, within, In}
+use Rattle.std.proofs.lemmas.Bool.{leb-true, le-leb, lt-leb, cases_lt}
+use Rattle.lattice.specs.Space.{gap, dist, In}
 use Rattle.lattice.specs.declared.Point.{Point}
 use Rattle.lattice.proofs.Distance.{gap_triangle}
 use Rattle.lattice.proofs.Toward.{toward, go, toward_gap, dist_go}
-use Rattle.solid.specs.declared.QuestionFault.TheVariants.{BeyondReach}
-use Rattle.solid.specs.Answer.{answer}
 use Rattle.solid.specs.Body.{Lawful}
-use Rattle.geometry.specs.Leaves.{leaf_reach, least, fits, fits_at, ball}
+use Rattle.geometry.specs.Leaves.{least, fits, fits_at, ball}
 use Rattle.geometry.specs.Stands.{SmallestStands}
 use Rattle.geometry.proofs.Least.{least_most, least_holds, least_first}
 
@@ -97,8 +95,3 @@ module _ (m : Point) (r : ℕ) where
 pub smallest_stands : SmallestStands
 unfolding fits
 smallest_stands m p r = (leb-true _ _ (least_holds (dist p m) (fits_at m r p) (fits_end m r p)), λ k h. least_first (dist p m) (fits_at m r p) k (le-leb _ _ h))
-
--- what the ball answers within its reach, from the offsets and the smallest number that fits
-pub ball_asked : (m p : Point) (r x a b c : ℕ) → within leaf_reach p ≡ true → a ≡ gap p.x m.x → b ≡ gap p.y m.y → c ≡ gap p.z m.z → x ≡ least (max a (max b c)) (fits r a b c) → Ok x ≡ answer (ball m r) p
-ball_asked m p r x a b c w ea eb ec e =
-    ap Ok (e ∙ λ t. least (max (ea t) (max (eb t) (ec t))) (fits r (ea t) (eb t) (ec t))) ∙ sym (cond-true (within leaf_reach p) (Ok ((ball m r).clear p)) (Err BeyondReach) w)

@@ -1,13 +1,11 @@
--- The box's body is lawful and exact, and what the box answers.
-use Rattle.std.proofs.Common.{◌≡◌, ℕ, ◌+◌, ◌≤◌, max, true, ◌&&◌, Ok, Err, sym, ap, ◌∙◌, arith}
+-- The box's body is lawful and exact.
+use Rattle.std.proofs.Common.{◌≡◌, ◌+◌, ◌≤◌, max, true, ◌&&◌, arith}
 use lib.Signed.{le_z}
-use Rattle.std.proofs.lemmas.Bool.{and_parts, and_from, cond-true}
-use Rattle.lattice.specs.Space.{dist, within, In}
+use Rattle.std.proofs.lemmas.Bool.{and_parts, and_from}
+use Rattle.lattice.specs.Space.{dist, In}
 use Rattle.lattice.specs.declared.Point.{Point}
-use Rattle.solid.specs.declared.QuestionFault.TheVariants.{BeyondReach}
-use Rattle.solid.specs.Answer.{answer}
 use Rattle.solid.specs.Body.{Lawful}
-use Rattle.geometry.specs.Leaves.{leaf_reach, beside, between, ordered, block}
+use Rattle.geometry.specs.Leaves.{between, ordered, block}
 use Rattle.geometry.proofs.Axes.{beside_slope, beside_most, between_beside, beside_between, nearest, nearest_between, gap_nearest}
 
 module _ (lo hi : Point) where
@@ -50,7 +48,3 @@ module _ (lo hi : Point) where
     slope = λ p q _ _. slope p q;
     touched = λ _ p _. (brought p, (brought_in p o, brought_by p o));
   }
-
--- what the box answers within its reach, from how far off the point is on each axis
-pub block_asked : (lo hi p : Point) (r a b c : ℕ) → within leaf_reach p ≡ true → a ≡ beside lo.x hi.x p.x → b ≡ beside lo.y hi.y p.y → c ≡ beside lo.z hi.z p.z → r ≡ max a (max b c) → Ok r ≡ answer (block lo hi) p
-block_asked lo hi p r a b c w ea eb ec e = ap Ok (e ∙ λ t. max (ea t) (max (eb t) (ec t))) ∙ sym (cond-true (within leaf_reach p) (Ok ((block lo hi).clear p)) (Err BeyondReach) w)

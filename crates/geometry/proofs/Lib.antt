@@ -2,6 +2,7 @@ pub mod Least
 pub mod Balls
 pub mod Axes
 pub mod Boxes
+pub mod Bounds
 pub mod Surfaces
 pub mod Near
 pub mod Kept

@@ -19,11 +19,11 @@ unfolding greatest
 greatest_least zero hs = omega (arith, ints)
 greatest_least (suc n) hs = omega (arith, ints, clamps, greatest_least n hs)
 
-pub greatest_most : (n : ℕ) (hs : List ℤ) (k : ℕ) → k < n → get_or hs k lowest ≤ℤ greatest n hs
+pub greatest_most : (n : ℕ) (hs : List ℤ) (k : ℕ) → k < n → get_or hs k (pos 0) ≤ℤ greatest n hs
 unfolding greatest
 greatest_most zero hs k l = absurd (omega arith)
 greatest_most (suc n) hs k l =
-    ⊎_elim (λ b. omega (arith, ints, clamps, greatest_most n hs k b)) (λ b. let e : k ≡ n = omega arith in omega (arith, ints, clamps, ap (λ i. get_or hs i lowest) e)) (cases_lt k n)
+    ⊎_elim (λ b. omega (arith, ints, clamps, greatest_most n hs k b)) (λ b. let e : k ≡ n = omega arith in omega (arith, ints, clamps, ap (λ i. get_or hs i (pos 0)) e)) (cases_lt k n)
 
 le_chain : (a b c : ℤ) → le_z a b ≡ true → b ≤ℤ c → le_z a c ≡ true
 le_chain a b c e l = sym (true_is_le a c (omega (arith, ints)))
@@ -95,9 +95,10 @@ module _ (w d : ℕ) (hs : List ℤ) where
   pub column_is : (p : Point) (h : ℤ) → between (pos 0) (last w) p.x ≡ true → between (pos 0) (last d) p.y ≡ true → h ≡ height w hs (nat_abs p.x) (nat_abs p.y) → le_z p.z h ≡ in_column w d hs p
   column_is p h ex ey e = ap (le_z p.z) e ∙ λ t. (sym ex t && sym ey t) && le_z p.z (height w hs (nat_abs p.x) (nat_abs p.y))
 
-  pub asked_in : (p : Point) → within leaf_reach p ≡ true → in_column w d hs p ≡ true → Ok 0 ≡ answer (surface w d hs) p
-  asked_in p i m = ap Ok (sym (cond-true (in_column w d hs p) 0 (max 1 (off p)) m)) ∙ sym (cond-true (within leaf_reach p) (Ok ((surface w d hs).clear p)) (Err BeyondReach) i)
+  pub asked_off : (p : Point) (top : ℤ) (r : ℕ) → within leaf_reach p ≡ true → in_column w d hs p ≡ false → top ≡ greatest (w * d) hs → r ≡ max 1 (off_block w d top p) → Ok r ≡ answer (surface w d hs) p
+  asked_off p top r i m et e =
+      ap Ok (e ∙ ap (λ t. max 1 (off_block w d t p)) et ∙ sym (cond-false (in_column w d hs p) 0 (max 1 (off p)) m)) ∙ sym (cond-true (within leaf_reach p) (Ok ((surface w d hs).clear p)) (Err BeyondReach) i)
 
-  pub asked_off : (p : Point) (top : ℤ) (r a b c : ℕ) → within leaf_reach p ≡ true → in_column w d hs p ≡ false → top ≡ greatest (w * d) hs → a ≡ beside (pos 0) (last w) p.x → b ≡ beside (pos 0) (last d) p.y → c ≡ above p.z top → r ≡ max 1 (max a (max b c)) → Ok r ≡ answer (surface w d hs) p
-  asked_off p top r a b c i m et ea eb ec e =
-      ap Ok (e ∙ (λ t. max 1 (max (ea t) (max (eb t) ((ec ∙ ap (above p.z) et) t)))) ∙ sym (cond-false (in_column w d hs p) 0 (max 1 (off p)) m)) ∙ sym (cond-true (within leaf_reach p) (Ok ((surface w d hs).clear p)) (Err BeyondReach) i)
+  -- the place of a column of the sheet among its heights
+  pub column_below : (p : Point) → between (pos 0) (last w) p.x ≡ true → between (pos 0) (last d) p.y ≡ true → nat_abs p.y * w + nat_abs p.x < w * d
+  column_below p ex ey = omega (arith, mul-add-lt (nat_abs p.y) w (nat_abs p.x) d (column d p.y ey) (column w p.x ex))

@@ -62,7 +62,7 @@ block lo hi = record {
   exact = true;
 }
 
--- the lowest height; a column for which there is no sample has it
+-- the lowest height
 abbrev pub lowest : ℤ
 lowest = negsuc 32767
 
@@ -70,14 +70,15 @@ lowest = negsuc 32767
 abbrev pub last : ℕ → ℤ
 last n = pos n -ℤ pos 1
 
--- the height of the column (i, j) of a sheet of width w, its samples in a list with x fastest
+-- the height of the column (i, j) of a sheet of width w, its heights in a list with x fastest. A sheet has a height for each
+-- column, so the 0 that the list would give past its end is never read, here and below.
 abbrev pub height : (w : ℕ) → List ℤ → (i j : ℕ) → ℤ
-height w hs i j = slice_index_or hs (j * w + i) lowest
+height w hs i j = slice_index_or hs (j * w + i) (pos 0)
 
--- the greatest of the first n samples
+-- the greatest of the first n heights
 unfoldable pub greatest : ℕ → List ℤ → ℤ
 greatest zero hs = lowest
-greatest (suc n) hs = int_max (greatest n hs) (slice_index_or hs n lowest)
+greatest (suc n) hs = int_max (greatest n hs) (slice_index_or hs n (pos 0))
 
 -- the surface: a sheet of w by d columns, each solid from its height down without end. The clearance beside or above the sheet
 -- is the distance to its bounding block, and never less than 1 off a member.

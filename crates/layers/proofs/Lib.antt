@@ -1,1 +1,2 @@
 pub mod Shifts
+pub mod Piled

@@ -1,2 +1,3 @@
 pub mod Told
 pub mod Made
+pub mod Piled

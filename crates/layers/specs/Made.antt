@@ -1,11 +1,8 @@
 -- What the making of a layer answers: the layer, or why it is refused.
-use Rattle.std.specs.Prelude.{ℕ, min, Bool, cond, ℤ, pos, negsuc, Ok, Err, Result, nat_le, unsigned_abs}
+use Rattle.std.specs.Prelude.{ℕ, Bool, cond, ℤ, pos, negsuc, Ok, Err, Result, nat_le, unsigned_abs}
 use Rattle.std.specs.Result.{result_map_both}
-use Rattle.lattice.specs.Space.{norm, within}
+use Rattle.lattice.specs.Space.{norm}
 use Rattle.lattice.specs.declared.Point.{Point}
-use Rattle.solid.specs.Body.{Body}
-use Rattle.solid.specs.declared.QuestionFault.{QuestionFault}
-use Rattle.solid.specs.declared.QuestionFault.TheVariants.{BeyondReach}
 use Rattle.layers.specs.declared.LayerFault.{LayerFault}
 use Rattle.layers.specs.declared.LayerFault.TheVariants.{Range, PastReach}
 
@@ -37,7 +34,3 @@ shift_made reach v made = result_map_both (λ _. made) (λ e. e) (offset_checked
 -- the parts of a cap
 abbrev pub parts : {A : Type 0} → A → ℕ → A × ℕ
 parts below most = (below, most)
-
--- the clearances of two bodies at a point, where both answer
-abbrev pub both_answers : (a b : Body) → Point → Result (ℕ × ℕ) QuestionFault
-both_answers a b p = cond (within (min a.reach b.reach) p) (Ok (a.clear p, b.clear p)) (Err BeyondReach)

@@ -2,19 +2,23 @@
 //! solid that is lent is a solid too, so a layer may also stand over references.
 #![tactic(auto)]
 
-ghost use Rattle.std.specs.Prelude.{◌≡◌, ◌≤◌, min};
+ghost use Rattle.std.specs.Prelude.{◌≡◌, ◌≤◌, min, IfOk, Some, unsigned_abs};
 ghost use Rattle.std.specs.Result.{result_map_both};
+ghost use Rattle.refusal.specs.Texts.{refusal_text};
 ghost use Rattle.geometry.specs.Layers.{unite, meet, shift, thicken, capped};
 ghost use Rattle.geometry.specs.Stands.{NearDecides};
 ghost use Rattle.geometry.proofs.Kept.{unite_lawful, meet_lawful, shift_lawful, thicken_lawful, capped_lawful};
 ghost use Rattle.layers.specs.declared.LayerFault.TheVariants.{Range};
 ghost use Rattle.layers.specs.Told.{layer_told};
-ghost use Rattle.layers.specs.Made.{both_answers, offset_checked, shift_made, thicken_number, cap_number, parts};
+ghost use Rattle.layers.specs.Made.{offset_checked, shift_made, thicken_number, cap_number, parts};
+ghost use Rattle.layers.specs.Piled.{UnitesPiles, MeetsPiles, ShiftsPiles, ThickensPiles, CapsPiles};
 
 use lattice::Point;
 use refusal::range::{OutOfRange, count_in, in_range};
+use refusal::told::Told;
 use refusal::{Refusal, Rule};
-use solid::{Exact, QuestionFault, Solid, check_asked};
+use solid::{Exact, MOST_CLEARANCE, QuestionFault, Solid, check_asked};
+use std::fmt;
 
 /// Why the making of a layer is refused. What was to lie below is let go; a caller that wants to
 /// keep it lends it.
@@ -41,6 +45,14 @@ impl Refusal for LayerFault {
             LayerFault::Range { place } => place,
             LayerFault::PastReach => 0,
         }
+    }
+}
+
+impl fmt::Display for LayerFault {
+    ghost output = { λ fault. Some (refusal_text (layer_told fault)) };
+
+    fn fmt<W: fmt::Write>(&self, f: &mut fmt::Formatter<W>) -> fmt::Result {
+        Told::of(self).fmt(f)
     }
 }
 
@@ -75,9 +87,7 @@ const SECOND: u32 = 2;
 const THIRD: u32 = 3;
 
 /// Checks an offset of a solid of that reach: refuses with 4 the first part outside -16383..=16383,
-/// then with 11 an offset of which a part is above the reach, in size. Three crates
-/// test a point's parts so: what they share is `in_range`, and one function of the three tests would save two lines
-/// and want a range, and a first place of a type that has two after it.
+/// then with 11 an offset of which a part is above the reach, in size.
 pub fn check_offset(reach: u32, by: Point) -> Result<(), LayerFault>
     ensures { result ≡ offset_checked reach by }
 {
@@ -104,17 +114,6 @@ fn smaller_reach<S: Solid, T: Solid>(left: &S, right: &T) -> u32
     left.reach().min(right.reach())
 }
 
-/// The clearances of two solids at a point that both answer.
-fn both<S: Solid, T: Solid>(left: &S, right: &T, p: Point) -> Result<(u32, u32), QuestionFault>
-    ensures { result ≡ both_answers (S.Solid.body left.now) (T.Solid.body right.now) p }
-{
-    Ok((left.clearance(p)?, right.clearance(p)?))
-}
-
-// `Unite` and `Meet` stay two types: one type with its choice as a parameter would be no plainer,
-// since the parameter would have to bring the operation, its law and whether it is exact, which is
-// all that they are. That a thickened meet does not build rests on `Meet` having no `Exact`.
-
 /// Members of either solid. It is exact over two exact solids.
 #[derive(Drop)]
 pub struct Unite<S, T> {
@@ -122,9 +121,10 @@ pub struct Unite<S, T> {
     right: T,
 }
 
-impl<S, T> Unite<S, T> {
+impl<S: Solid, T: Solid> Unite<S, T> {
     pub fn new(left: S, right: T) -> Unite<S, T>
-        ensures { result ≡ record { left = left; right = right } }
+        ensures value { result ≡ record { left = left; right = right } }
+        ensures piled { UnitesPiles (S.Solid.body left) (T.Solid.body right) (⟦<Unite<S, T> as Solid>⟧.body result) }
     {
         Unite { left, right }
     }
@@ -140,8 +140,12 @@ impl<S: Solid, T: Solid> Solid for Unite<S, T> {
     }
 
     fn clearance(&self, p: Point) -> Result<u32, QuestionFault> {
-        let (left, right) = both(&self.left, &self.right, p)?;
-        Ok(left.min(right))
+        self.clearance_up_to(p, MOST_CLEARANCE)
+    }
+
+    fn clearance_up_to(&self, p: Point, most: u32) -> Result<u32, QuestionFault> {
+        let left = self.left.clearance_up_to(p, most)?;
+        self.right.clearance_up_to(p, left)
     }
 }
 
@@ -159,9 +163,10 @@ pub struct Meet<S, T> {
     right: T,
 }
 
-impl<S, T> Meet<S, T> {
+impl<S: Solid, T: Solid> Meet<S, T> {
     pub fn new(left: S, right: T) -> Meet<S, T>
-        ensures { result ≡ record { left = left; right = right } }
+        ensures value { result ≡ record { left = left; right = right } }
+        ensures piled { MeetsPiles (S.Solid.body left) (T.Solid.body right) (⟦<Meet<S, T> as Solid>⟧.body result) }
     {
         Meet { left, right }
     }
@@ -177,14 +182,23 @@ impl<S: Solid, T: Solid> Solid for Meet<S, T> {
     }
 
     fn clearance(&self, p: Point) -> Result<u32, QuestionFault> {
-        let (left, right) = both(&self.left, &self.right, p)?;
+        self.clearance_up_to(p, MOST_CLEARANCE)
+    }
+
+    fn clearance_up_to(&self, p: Point, most: u32) -> Result<u32, QuestionFault> {
+        let left = self.left.clearance_up_to(p, most)?;
+        // Where the first reaches the limit, so does the greater of the two.
+        if left == most {
+            check_asked(self.right.reach(), p)?;
+            return Ok(most);
+        }
+        let right = self.right.clearance_up_to(p, most)?;
         Ok(left.max(right))
     }
 }
 
 /// The solid below, moved by an offset, and exact if that one is. An offset that passes the reach
-/// below would mean no offset; no such shift is made. No invariant names the reach below, so that a
-/// shift of any solid has a meaning.
+/// below counts as none; `new` makes no such shift.
 #[derive(Drop)]
 pub struct Shift<S> {
     below: S,
@@ -195,7 +209,8 @@ impl<S: Solid + Drop> Shift<S> {
     /// Refuses with 4 the first part outside -16383..=16383, then with 11 an offset of which a part
     /// is above the reach below, in size.
     pub fn new(below: S, by: Point) -> Result<Shift<S>, LayerFault>
-        ensures { result ≡ shift_made (S.Solid.body below).reach by (record { below = below; by = by }) }
+        ensures value { result ≡ shift_made (S.Solid.body below).reach by (record { below = below; by = by }) }
+        ensures piled { IfOk result (λ made. ShiftsPiles by (S.Solid.body below) (⟦<Shift<S> as Solid>⟧.body made)) }
     {
         check_offset(below.reach(), by)?;
         Ok(Shift { below, by })
@@ -218,14 +233,17 @@ impl<S: Solid> Solid for Shift<S> {
     }
 
     fn clearance(&self, p: Point) -> Result<u32, QuestionFault> {
+        self.clearance_up_to(p, MOST_CLEARANCE)
+    }
+
+    fn clearance_up_to(&self, p: Point, most: u32) -> Result<u32, QuestionFault> {
         let below = self.below.reach();
         let offset = self.by.norm();
         if offset > below {
-            return self.below.clearance(p);
+            return self.below.clearance_up_to(p, most);
         }
         check_asked(below - offset, p)?;
-        let moved = p.checked_sub(self.by).ok_or(QuestionFault::BeyondReach)?;
-        self.below.clearance(moved)
+        self.below.clearance_up_to(p.wrapping_sub(self.by), most)
     }
 }
 
@@ -250,7 +268,9 @@ impl<S: Exact + Drop> Thicken<S> {
     pub fn new(below: S, by: i32) -> Result<Thicken<S>, LayerFault>
         ensures value { result ≡ result_map_both (λ h. record { below = below; by = h }) (λ e. e) (thicken_number by) }
         ensures near { NearDecides }
+        ensures piled { IfOk result (λ made. ThickensPiles (unsigned_abs by) (S.Solid.body below) (⟦<Thicken<S> as Solid>⟧.body made)) }
     {
+        below.exactly();
         let by = check_thickness(by)?;
         Ok(Thicken { below, by })
     }
@@ -266,8 +286,12 @@ impl<S: Exact> Solid for Thicken<S> {
     }
 
     fn clearance(&self, p: Point) -> Result<u32, QuestionFault> {
+        self.clearance_up_to(p, MOST_CLEARANCE)
+    }
+
+    fn clearance_up_to(&self, p: Point, most: u32) -> Result<u32, QuestionFault> {
         self.below.exactly();
-        let clear = self.below.clearance(p)?;
+        let clear = self.below.clearance_up_to(p, most.saturating_add(self.by))?;
         Ok(clear.saturating_sub(self.by))
     }
 }
@@ -287,10 +311,11 @@ pub struct Cap<S> {
     ghost some: { 1 ≤ most },
 }
 
-impl<S: Drop> Cap<S> {
+impl<S: Solid + Drop> Cap<S> {
     /// Refuses with 4 a bound outside 1..=2097151.
     pub fn new(below: S, most: i32) -> Result<Cap<S>, LayerFault>
-        ensures { result_map_both (λ c. parts c.below c.most) (λ e. e) result ≡ result_map_both (parts below) (λ e. e) (cap_number most) }
+        ensures value { result_map_both (λ c. parts c.below c.most) (λ e. e) result ≡ result_map_both (parts below) (λ e. e) (cap_number most) }
+        ensures piled { IfOk result (λ made. CapsPiles (S.Solid.body below) (⟦<Cap<S> as Solid>⟧.body made)) }
     {
         let most = count_in(most, LEAST_CAP, MOST_CAP, FIRST)?;
         Ok(Cap { below, most })
@@ -307,7 +332,10 @@ impl<S: Solid> Solid for Cap<S> {
     }
 
     fn clearance(&self, p: Point) -> Result<u32, QuestionFault> {
-        let clear = self.below.clearance(p)?;
-        Ok(self.most.min(clear))
+        self.clearance_up_to(p, MOST_CLEARANCE)
+    }
+
+    fn clearance_up_to(&self, p: Point, most: u32) -> Result<u32, QuestionFault> {
+        self.below.clearance_up_to(p, most.min(self.most))
     }
 }

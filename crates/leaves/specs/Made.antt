@@ -1,9 +1,11 @@
 -- What is made of a leaf's numbers, or the first refusal that applies: `result_and` goes on where a check passes, and else stops with
 -- its fault.
-use Rattle.std.specs.Prelude.{ℕ, ◌+◌, ◌*◌, Bool, cond, ◌&&◌, ℤ, pos, negsuc, Ok, Err, Result, nat_le, unsigned_abs}
-use Rattle.std.specs.Result.{result_and}
+use Rattle.std.specs.Prelude.{ℕ, ◌+◌, ◌*◌, Bool, cond, ◌&&◌, List, length, take, ℤ, pos, negsuc, Ok, Err, Result, nat_le, unsigned_abs}
+use Rattle.std.specs.Result.{result_and, result_map_both}
 use Rattle.lattice.specs.declared.Point.{Point}
-use Rattle.geometry.specs.Leaves.{between, ordered}
+use Rattle.solid.specs.Body.{Body}
+use Rattle.geometry.specs.Leaves.{between, ordered, surface}
+use Rattle.leaves.specs.declared.surface.SurfaceSize.{SurfaceSize}
 use Rattle.leaves.specs.declared.fault.LeafFault.{LeafFault}
 use Rattle.leaves.specs.declared.fault.LeafFault.TheVariants.{Range, Crossed}
 use Rattle.leaves.specs.declared.fault.SurfaceFault.{SurfaceFault}
@@ -28,9 +30,20 @@ ball_made m r = result_and (point_ranged m 1) (result_and (ranged (pos 0) (pos 1
 abbrev pub box_made : (lo hi : Point) → Result (Point × Point) LeafFault
 box_made lo hi = result_and (point_ranged lo 1) (result_and (point_ranged hi 4) (cond (ordered lo hi) (Ok (lo, hi)) (Err Crossed)))
 
--- a sheet, by its width and depth, over n heights
+-- a surface's size, by its width and depth, where there is room for so many heights
 abbrev pub is_side : ℤ → Bool
 is_side z = between (pos 1) (pos 64) z
 
-abbrev pub sheet_made : (width depth : ℤ) (n : ℕ) → Result (ℕ × ℕ) SurfaceFault
-sheet_made width depth n = cond (is_side width && is_side depth) (cond (nat_le (unsigned_abs width * unsigned_abs depth) n) (Ok (unsigned_abs width, unsigned_abs depth)) (Err Buffer)) (Err Size)
+abbrev pub size_made : (width depth : ℤ) → (room : ℕ) → Result SurfaceSize SurfaceFault
+size_made width depth room =
+    cond (is_side width && is_side depth)
+    (cond (nat_le (unsigned_abs width * unsigned_abs depth) room) (Ok (record { width = unsigned_abs width; depth = unsigned_abs depth })) (Err Buffer))
+    (Err Size)
+
+-- the surface of that size and those heights
+abbrev pub surface_body : SurfaceSize → List ℤ → Body
+surface_body size hs = surface size.width size.depth hs
+
+-- a sheet, by its size and its heights: as many of those given as it has columns
+abbrev pub sheet_made : (width depth : ℤ) → List ℤ → Result (SurfaceSize × List ℤ) SurfaceFault
+sheet_made width depth hs = result_map_both (λ s. (s, take (s.width * s.depth) hs)) (λ e. e) (size_made width depth (length hs))

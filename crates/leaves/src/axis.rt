@@ -1,17 +1,12 @@
 //! Differences along one axis.
-ghost use Rattle.std.specs.Prelude.{◌≡◌};
-ghost use Rattle.geometry.specs.Leaves.{above, beside};
+ghost use Rattle.std.specs.Prelude.{◌≡◌, ◌≤◌, ◌-ℤ◌, unsigned_abs};
+ghost use Rattle.std.specs.Int.{int_max};
 
-/// How far `a` is above `b`, or 0.
-pub(crate) fn above(a: i32, b: i32) -> u32
-    ensures { result ≡ above a b }
+/// How far `n` lies outside `least..=most`. It is 0 or less where `n` lies in them.
+#[inline(always)]
+pub(crate) fn outside(least: i32, most: i32, n: i32) -> i32
+    requires { (unsigned_abs least ≤ 1048576) × (unsigned_abs most ≤ 1048576) × (unsigned_abs n ≤ 1048576) }
+    ensures { result ≡ int_max (least -ℤ n) (n -ℤ most) }
 {
-    if a > b { a.abs_diff(b) } else { 0 }
-}
-
-/// How far `n` lies outside `least..=most`.
-pub(crate) fn beside(least: i32, most: i32, n: i32) -> u32
-    ensures { result ≡ beside least most n }
-{
-    above(least, n).max(above(n, most))
+    (least - n).max(n - most)
 }

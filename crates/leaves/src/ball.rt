@@ -1,24 +1,25 @@
 //! The ball.
-ghost use Rattle.std.specs.Prelude.{◌≡◌, ℕ, ◌+◌, ◌-◌, ◌*◌, ◌≤◌, max};
+ghost use Rattle.std.specs.Prelude.{◌≡◌, ℕ, ◌+◌, ◌-◌, ◌*◌, ◌≤◌, max, min};
 ghost use Rattle.std.specs.Result.{result_map_both};
-ghost use Rattle.lattice.specs.Space.{In, gap};
+ghost use Rattle.lattice.specs.Space.{IsPlacement, gap};
+ghost use Rattle.lattice.proofs.Distance.{placement_in};
 ghost use Rattle.geometry.specs.Leaves.{least, fits, ball};
 ghost use Rattle.geometry.specs.Stands.{SmallestStands};
 ghost use Rattle.geometry.proofs.Balls.{ball_lawful};
 ghost use Rattle.leaves.specs.Made.{ball_made};
 
-use super::LEAF_REACH;
 use super::fault::{LeafFault, check_point};
+use super::{LEAF_REACH, LeafPoint};
 use lattice::Point;
 use refusal::range::count_in;
-use solid::{Exact, QuestionFault, Solid, check_asked};
+use solid::{Exact, MOST_CLEARANCE, QuestionFault, Solid};
 
 /// The points whose squared offsets from the centre add to at most the radius squared.
 #[derive(Clone, Copy)]
 pub struct Ball {
     pub centre: Point,
     pub radius: u32,
-    ghost near: { In 16384 centre },
+    ghost is_placement: { IsPlacement centre },
     ghost small: { radius ≤ 16383 },
 }
 
@@ -34,7 +35,7 @@ const RADIUS_PLACE: u32 = 4;
 
 impl Ball {
     /// The ball of that centre and radius. The centre's coordinates, numbers 1 to 3, lie in
-    /// -16384..16383 and the radius, number 4, in 0..16383; the first that does not is refused.
+    /// -16384..=16383 and the radius, number 4, in 0..=16383; the first that does not is refused.
     pub fn new(centre: Point, radius: i32) -> Result<Ball, LeafFault>
         ensures value { result_map_both (λ (b : Ball). (b.centre, b.radius)) (λ e. e) result ≡ ball_made centre radius }
         ensures smallest { SmallestStands }
@@ -64,6 +65,7 @@ struct Offsets {
 
 impl Offsets {
     /// The greatest of them.
+    #[inline(always)]
     fn greatest(self) -> u32
         ensures { result ≡ max self.x (max self.y self.z) }
     {
@@ -92,17 +94,17 @@ impl Offsets {
 }
 
 impl Ball {
-    /// The offsets from the centre of a point within the reach.
-    fn offsets(self, p: Point) -> Offsets
-        requires { In 1048576 p }
-        ensures x { result.x ≡ gap p.x self.centre.x }
-        ensures y { result.y ≡ gap p.y self.centre.y }
-        ensures z { result.z ≡ gap p.z self.centre.z }
+    /// The offsets of a point from the centre.
+    #[inline(always)]
+    fn offsets(&self, p: LeafPoint) -> Offsets
+        ensures x { result.x ≡ gap p.at.x self.now.centre.x }
+        ensures y { result.y ≡ gap p.at.y self.now.centre.y }
+        ensures z { result.z ≡ gap p.at.z self.now.centre.z }
     {
         Offsets {
-            x: p.x.abs_diff(self.centre.x),
-            y: p.y.abs_diff(self.centre.y),
-            z: p.z.abs_diff(self.centre.z),
+            x: (p.at.x - self.centre.x).unsigned_abs(),
+            y: (p.at.y - self.centre.y).unsigned_abs(),
+            z: (p.at.z - self.centre.z).unsigned_abs(),
         }
     }
 
@@ -136,20 +138,47 @@ impl Ball {
         }
         low
     }
+
+    /// The smallest `k` that fits, of offsets one by one.
+    // Few questions come to it. Out of line, and with its numbers in registers, it leaves a loop that
+    // asks many balls short.
+    #[inline(never)]
+    fn smallest_of(&self, x: u32, y: u32, z: u32) -> u32
+        requires { (x ≤ 1064960) × (y ≤ 1064960) × (z ≤ 1064960) }
+        ensures { result ≡ least (max x (max y z)) (fits self.now.radius x y z) }
+    {
+        self.smallest(Offsets { x, y, z })
+    }
+
+    /// The clearance, or `most` where that is smaller. It is at least the greatest offset less the
+    /// radius, which tells of most balls that they are far enough off.
+    #[inline(always)]
+    pub fn clear_up_to(&self, p: LeafPoint, most: u32) -> u32
+        ensures { result ≡ min most ((ball self.now.centre self.now.radius).clear p.at) }
+    {
+        let offsets = self.offsets(p);
+        if offsets.greatest().saturating_sub(self.radius) >= most {
+            return most;
+        }
+        most.min(self.smallest_of(offsets.x, offsets.y, offsets.z))
+    }
 }
 
 impl Solid for Ball {
     ghost body = { λ s. ball s.centre s.radius };
 
-    ghost lawful = { λ s. ball_lawful s.centre s.radius s.near };
+    ghost lawful = { λ s. ball_lawful s.centre s.radius (placement_in s.centre s.is_placement) };
 
     fn reach(&self) -> u32 {
         LEAF_REACH
     }
 
     fn clearance(&self, p: Point) -> Result<u32, QuestionFault> {
-        check_asked(LEAF_REACH, p)?;
-        Ok(self.smallest(self.offsets(p)))
+        self.clearance_up_to(p, MOST_CLEARANCE)
+    }
+
+    fn clearance_up_to(&self, p: Point, most: u32) -> Result<u32, QuestionFault> {
+        Ok(self.clear_up_to(LeafPoint::new(p)?, most))
     }
 }
 

@@ -1,13 +1,16 @@
 //! Why a leaf's numbers are refused.
-ghost use Rattle.std.specs.Prelude.{◌≡◌, ◌≤◌, true, is_ok};
-ghost use Rattle.lattice.specs.Space.{In};
+ghost use Rattle.std.specs.Prelude.{◌≡◌, ◌≤◌, true, is_ok, Some};
+ghost use Rattle.refusal.specs.Texts.{refusal_text};
+ghost use Rattle.lattice.specs.Space.{IsPlacement};
 ghost use Rattle.leaves.specs.Told.{leaf_told, surface_told};
 ghost use Rattle.leaves.specs.declared.fault.LeafFault.TheVariants.{Range};
 ghost use Rattle.leaves.specs.Made.{point_ranged};
 
-use lattice::Point;
+use lattice::{LEAST_COORDINATE, MOST_COORDINATE, Point};
 use refusal::range::{OutOfRange, in_range};
+use refusal::told::Told;
 use refusal::{Refusal, Rule};
+use std::fmt;
 
 /// Why a ball or a box is not made.
 #[derive(Clone, Copy, PartialEq, Eq, Debug)]
@@ -33,6 +36,14 @@ impl Refusal for LeafFault {
             LeafFault::Range { place } => *place,
             LeafFault::Crossed => 0,
         }
+    }
+}
+
+impl fmt::Display for LeafFault {
+    ghost output = { λ fault. Some (refusal_text (leaf_told fault)) };
+
+    fn fmt<W: fmt::Write>(&self, f: &mut fmt::Formatter<W>) -> fmt::Result {
+        Told::of(self).fmt(f)
     }
 }
 
@@ -68,19 +79,20 @@ impl Refusal for SurfaceFault {
     }
 }
 
-/// The range of the coordinates of centres and corners.
-pub const LEAST_COORDINATE: i32 = -16_384;
+impl fmt::Display for SurfaceFault {
+    ghost output = { λ fault. Some (refusal_text (surface_told fault)) };
 
-pub const MOST_COORDINATE: i32 = 16_383;
+    fn fmt<W: fmt::Write>(&self, f: &mut fmt::Formatter<W>) -> fmt::Result {
+        Told::of(self).fmt(f)
+    }
+}
 
-/// Checks the three numbers of a point, the first of which stands at the place `first`. Three crates test a
-/// point's parts so: what they share is `in_range`, and one function of the three tests would save two lines
-/// and want a range, and a first place of a type that has two after it.
+/// Checks the three numbers of a point, the first of which stands at the place `first`.
 #[tactic(auto, unfolding(crate::specs::Made::point_ranged, crate::specs::Made::ranged))]
 pub(crate) fn check_point(p: Point, first: u32) -> Result<(), LeafFault>
     requires { first ≤ 4 }
     ensures value { result ≡ point_ranged p first }
-    ensures near { is_ok result ≡ true → In 16384 p }
+    ensures placement { is_ok result ≡ true → IsPlacement p }
 {
     in_range(p.x, LEAST_COORDINATE, MOST_COORDINATE, first)?;
     in_range(p.y, LEAST_COORDINATE, MOST_COORDINATE, first + 1)?;

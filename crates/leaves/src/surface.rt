@@ -1,25 +1,16 @@
 //! The surface: columns that stand side by side on a sheet.
-ghost use Rattle.std.specs.Prelude.{◌≡◌, ◌*◌, ◌≤◌, cond, length, slice_index_or, unsigned_abs, Ok, Err};
+ghost use Rattle.std.specs.Prelude.{◌≡◌, ◌*◌, ◌≤◌, cond, length, unsigned_abs, Ok, Err};
 ghost use Rattle.std.specs.Result.{result_map_both};
-ghost use Rattle.geometry.specs.Leaves.{last, lowest, greatest, in_column, surface};
+ghost use Rattle.geometry.specs.Leaves.{last, greatest, off_block};
 ghost use Rattle.geometry.proofs.Surfaces.{surface_lawful};
 ghost use Rattle.leaves.specs.declared.fault.SurfaceFault.TheVariants.{Size};
-ghost use Rattle.leaves.specs.Made.{is_side, sheet_made};
+ghost use Rattle.leaves.specs.Made.{is_side, size_made, sheet_made, surface_body};
 
-use super::LEAF_REACH;
-use super::axis::{above, beside};
+use super::axis::outside;
 use super::fault::SurfaceFault;
+use super::{LEAF_REACH, LeafPoint};
 use lattice::Point;
-use solid::{QuestionFault, Solid, check_asked};
-
-/// The sizes of a surface, which were checked.
-#[derive(Clone, Copy)]
-pub struct Sheet {
-    pub width: u32,
-    pub depth: u32,
-    ghost wide: { (1 ≤ width) × (width ≤ 64) },
-    ghost deep: { (1 ≤ depth) × (depth ≤ 64) },
-}
+use solid::{QuestionFault, Solid};
 
 /// How many columns a side of a sheet may have.
 pub const SHORTEST_SIDE: i32 = 1;
@@ -36,34 +27,83 @@ fn side(n: i32) -> Result<u32, SurfaceFault>
     Ok(n.unsigned_abs())
 }
 
-impl Sheet {
-    /// Checks what a surface is to be made of: width and depth lie in 1..64, and there is a height
-    /// for each column. Every 16-bit number is a height.
-    pub fn check(width: i32, depth: i32, heights: &[i16]) -> Result<Sheet, SurfaceFault>
-        ensures { result_map_both (λ (s : Sheet). (s.width, s.depth)) (λ e. e) result ≡ sheet_made width depth (length heights.now) }
-    {
-        Sheet::for_room(width, depth, heights.len())
-    }
+/// The columns of a surface: `width` of them along x, `depth` along y, each in 1..=64.
+#[derive(Clone, Copy, PartialEq, Eq, Debug)]
+pub struct SurfaceSize {
+    width: u32,
+    depth: u32,
+}
 
-    /// The same where there is room for so many heights.
-    pub fn for_room(width: i32, depth: i32, room: usize) -> Result<Sheet, SurfaceFault>
-        ensures { result_map_both (λ (s : Sheet). (s.width, s.depth)) (λ e. e) result ≡ sheet_made width depth room }
+impl SurfaceSize {
+    /// The size of that width and depth, each in 1..=64, where there is room for so many heights.
+    pub fn for_room(width: i32, depth: i32, room: usize) -> Result<SurfaceSize, SurfaceFault>
+        ensures { result ≡ size_made width depth room }
     {
-        let sheet = Sheet {
+        let size = SurfaceSize {
             width: side(width)?,
             depth: side(depth)?,
         };
-        if room < sheet.columns() {
+        if room < size.columns() {
             return Err(SurfaceFault::Buffer);
         }
-        Ok(sheet)
+        Ok(size)
     }
 
-    /// How many columns the sheet has.
+    /// How many columns stand side by side along x.
+    pub fn width(self) -> u32
+        ensures { result ≡ self.width }
+    {
+        self.width
+    }
+
+    /// How many stand along y.
+    pub fn depth(self) -> u32
+        ensures { result ≡ self.depth }
+    {
+        self.depth
+    }
+
+    /// How many columns the surface has.
     pub fn columns(self) -> usize
         ensures { result ≡ self.width * self.depth }
     {
         self.width as usize * self.depth as usize
+    }
+}
+
+/// What a surface is made of, which was checked: a size, and a height for each column, x fastest.
+/// The heights are the caller's.
+#[derive(Clone, Copy)]
+pub struct Sheet<'a> {
+    pub size: SurfaceSize,
+    pub heights: &'a [i16],
+    ghost wide: { (1 ≤ size.width) × (size.width ≤ 64) },
+    ghost deep: { (1 ≤ size.depth) × (size.depth ≤ 64) },
+    ghost full: { length heights.now ≡ size.width * size.depth },
+}
+
+impl<'a> Sheet<'a> {
+    /// The sheet of that width and depth, each in 1..=64, over the first heights, one for each column.
+    /// Every 16-bit number is a height; fewer than columns are refused.
+    pub fn check(width: i32, depth: i32, heights: &'a [i16]) -> Result<Sheet<'a>, SurfaceFault>
+        ensures { result_map_both (λ (s : Sheet). (s.size, s.heights.now)) (λ e. e) result ≡ sheet_made width depth heights.now }
+    {
+        let size = SurfaceSize::for_room(width, depth, heights.len())?;
+        Ok(Sheet {
+            size,
+            heights: &heights[..size.columns()],
+        })
+    }
+
+    /// The greatest height.
+    fn greatest(&self) -> i16
+        ensures { result ≡ greatest (self.now.size.width * self.now.size.depth) self.now.heights.now }
+    {
+        let mut top = i16::MIN;
+        for height in self.heights {
+            top = top.max(*height);
+        }
+        top
     }
 }
 
@@ -75,66 +115,46 @@ fn last(side: u32) -> i32
     side as i32 - 1
 }
 
-/// The height of a column that the caller's heights lack.
-const LOWEST_HEIGHT: i16 = i16::MIN;
-
-/// The height of a column.
-fn height_at(heights: &[i16], column: usize) -> i16
-    ensures { result ≡ slice_index_or heights.now column lowest }
-{
-    heights.get(column).copied().unwrap_or(LOWEST_HEIGHT)
-}
-
-/// The greatest height of the first `columns`. There may be fewer: a caller would cut the slice at the smaller
-/// of the two, which `take` does in a word.
-fn greatest(heights: &[i16], columns: usize) -> i16
-    ensures { result ≡ greatest columns heights.now }
-{
-    heights
-        .iter()
-        .copied()
-        .take(columns)
-        .fold(LOWEST_HEIGHT, i16::max)
-}
-
-/// A sheet of columns, each solid from its height down without end. Its heights are the caller's,
-/// x fastest.
+/// A sheet of columns, each solid from its height down without end.
 #[derive(Clone, Copy)]
 pub struct Surface<'a> {
-    heights: &'a [i16],
-    sheet: Sheet,
+    sheet: Sheet<'a>,
     top: i16,
-    ghost highest: { top ≡ greatest (sheet.width * sheet.depth) heights.now },
+    ghost highest: { top ≡ greatest (sheet.size.width * sheet.size.depth) sheet.heights.now },
 }
 
 impl<'a> Surface<'a> {
-    /// The surface of a checked sheet. This cannot refuse: a column for which there is no height,
-    /// which the check would have refused, has the lowest.
-    pub fn new(sheet: Sheet, heights: &'a [i16]) -> Surface<'a>
-        ensures heights { result.heights.now ≡ heights.now }
-        ensures sheet { result.sheet ≡ sheet }
-        ensures top { result.top ≡ greatest (sheet.width * sheet.depth) heights.now }
+    /// The surface of a sheet.
+    pub fn new(sheet: Sheet<'a>) -> Surface<'a>
+        ensures { ⟦<Surface<'a> as Solid>⟧.body result ≡ surface_body sheet.entry.size sheet.entry.heights.now }
     {
-        let top = greatest(heights, sheet.columns());
-        Surface {
-            heights,
-            sheet,
-            top,
-        }
+        let top = sheet.greatest();
+        Surface { sheet, top }
     }
 
     /// Is the point a member: on the sheet, and no higher than the column there?
     fn in_column(&self, p: Point) -> bool
-        ensures { result ≡ in_column self.now.sheet.width self.now.sheet.depth self.now.heights.now p }
+        ensures { result ≡ (surface_body self.now.sheet.size self.now.sheet.heights.now).member p }
     {
-        if !(0..=last(self.sheet.width)).contains(&p.x) {
+        let size = self.sheet.size;
+        if !(0..=last(size.width)).contains(&p.x) {
             return false;
         }
-        if !(0..=last(self.sheet.depth)).contains(&p.y) {
+        if !(0..=last(size.depth)).contains(&p.y) {
             return false;
         }
-        let column = p.y as usize * self.sheet.width as usize + p.x as usize;
-        p.z <= height_at(self.heights, column) as i32
+        let column = p.y as usize * size.width as usize + p.x as usize;
+        p.z <= self.sheet.heights[column] as i32
+    }
+
+    /// How far the point lies off the block that bounds the columns.
+    fn off_block(&self, p: LeafPoint) -> u32
+        ensures { result ≡ off_block self.now.sheet.size.width self.now.sheet.size.depth self.now.top p.at }
+    {
+        let x = outside(0, last(self.sheet.size.width), p.at.x);
+        let y = outside(0, last(self.sheet.size.depth), p.at.y);
+        let z = p.at.z - self.top as i32;
+        x.max(y.max(z)).max(0) as u32
     }
 }
 
@@ -142,22 +162,19 @@ impl<'a> Surface<'a> {
 const LEAST_STRIDE: u32 = 1;
 
 impl<'a> Solid for Surface<'a> {
-    ghost body = { λ s. surface s.sheet.width s.sheet.depth s.heights.now };
+    ghost body = { λ s. surface_body s.sheet.size s.sheet.heights.now };
 
-    ghost lawful = { λ s. surface_lawful s.sheet.width s.sheet.depth s.heights.now };
+    ghost lawful = { λ s. surface_lawful s.sheet.size.width s.sheet.size.depth s.sheet.heights.now };
 
     fn reach(&self) -> u32 {
         LEAF_REACH
     }
 
     fn clearance(&self, p: Point) -> Result<u32, QuestionFault> {
-        check_asked(LEAF_REACH, p)?;
-        if self.in_column(p) {
+        let p = LeafPoint::new(p)?;
+        if self.in_column(p.at) {
             return Ok(0);
         }
-        let x = beside(0, last(self.sheet.width), p.x);
-        let y = beside(0, last(self.sheet.depth), p.y);
-        let z = above(p.z, self.top as i32);
-        Ok(x.max(y.max(z)).max(LEAST_STRIDE))
+        Ok(self.off_block(p).max(LEAST_STRIDE))
     }
 }

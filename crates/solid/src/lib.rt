@@ -2,13 +2,16 @@
 //! lattice, known only by the clearances that it answers.
 #![tactic(auto)]
 
-ghost use Rattle.std.specs.Prelude.{◌≡◌, ℕ, ◌≤◌, true};
+ghost use Rattle.std.specs.Prelude.{◌≡◌, ℕ, ◌≤◌, true, Some};
+ghost use Rattle.refusal.specs.Texts.{refusal_text};
 ghost use Rattle.solid.specs.Body.{Body, Lawful};
-ghost use Rattle.solid.specs.Answer.{answer, asked};
+ghost use Rattle.solid.specs.Answer.{answer, answer_up_to, asked};
 ghost use Rattle.solid.specs.Told.{question_told};
 
 use lattice::Point;
+use refusal::told::Told;
 use refusal::{Refusal, Rule};
+use std::fmt;
 
 /// Why a question is refused.
 #[derive(Clone, Copy, PartialEq, Eq, Debug)]
@@ -31,6 +34,14 @@ impl Refusal for QuestionFault {
     }
 }
 
+impl fmt::Display for QuestionFault {
+    ghost output = { λ fault. Some (refusal_text (question_told fault)) };
+
+    fn fmt<W: fmt::Write>(&self, f: &mut fmt::Formatter<W>) -> fmt::Result {
+        Told::of(self).fmt(f)
+    }
+}
+
 /// Checks that a solid of that reach may be asked at the point.
 pub fn check_asked(reach: u32, p: Point) -> Result<(), QuestionFault>
     ensures { result ≡ asked reach p }
@@ -44,11 +55,12 @@ pub fn check_asked(reach: u32, p: Point) -> Result<(), QuestionFault>
 /// No solid's reach is above this: it is one of the laws.
 pub const MOST_REACH: u32 = 1_048_576;
 
-/// A solid. `body` is what it means, and `lawful` shows that it keeps the laws.
+/// No clearance is above this: it is one of the laws. A question up to it is one with no limit.
+pub const MOST_CLEARANCE: u32 = 2_097_151;
+
+/// A solid. `body` is what it means, and `lawful` is its law: the body keeps the laws.
 pub trait Solid {
     ghost body: { Self → Body };
-
-    ghost lawful: { (s : Self) → Lawful (body s) };
 
     /// Questions are answered at the points whose coordinates are at most this, in size.
     fn reach(&self) -> u32
@@ -57,6 +69,16 @@ pub trait Solid {
     /// No member is nearer to the point than this, and it is 0 exactly at members.
     fn clearance(&self, p: Point) -> Result<u32, QuestionFault>
         ensures { result ≡ answer (body self.now) p };
+
+    /// The clearance, or `most` where that is smaller. A solid that can tell sooner that its clearance
+    /// is at least `most` gives this a body of its own.
+    fn clearance_up_to(&self, p: Point, most: u32) -> Result<u32, QuestionFault>
+        ensures { result ≡ answer_up_to most (body self.now) p }
+    {
+        Ok(most.min(self.clearance(p)?))
+    }
+
+    ghost lawful: { (s : Self) → Lawful (body s) };
 }
 
 /// An exact solid: some member lies at exactly the clearance. The law stands with the others, for
@@ -78,6 +100,10 @@ impl<'a, S: Solid> Solid for &'a S {
 
     fn clearance(&self, p: Point) -> Result<u32, QuestionFault> {
         (**self).clearance(p)
+    }
+
+    fn clearance_up_to(&self, p: Point, most: u32) -> Result<u32, QuestionFault> {
+        (**self).clearance_up_to(p, most)
     }
 }
 

@@ -17,5 +17,5 @@ pub returns : goal.returns
 returns g c =
     let b = g.S.Solid.body c.args.solid.now in
     let p = c.args.p in
-    let v = told_alike b p c.in_ok-c.c (g.S.Solid.lawful c.args.solid.now) c.in_ok-c.ensures in
+    let v = told_alike b p c.in_ok-c.c (g.met.S.Solid.lawful c.args.solid.now) c.in_ok-c.ensures in
     record { value = v; algebra = of_pile b p _ v; piles = piles_stand }

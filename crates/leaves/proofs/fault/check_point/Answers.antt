@@ -11,6 +11,6 @@ pub returns-clause-value : goal.returns-clause-value
 unfolding point_ranged ranged
 returns-clause-value c = search rules
 
-pub returns-clause-near : goal.returns-clause-near
+pub returns-clause-placement : goal.returns-clause-placement
 unfolding point_ranged ranged
-returns-clause-near c = λ _. grind (arith, common_steps)
+returns-clause-placement c = λ _. grind (arith, common_steps)

@@ -1,13 +1,11 @@
-use Rattle.std.proofs.Common.{rules}
-use Rattle.solid.proofs.Asked.{within_in}
-use Rattle.geometry.proofs.Balls.{ball_asked}
+use Rattle.std.proofs.Common.{◌∙◌}
+use Rattle.lattice.proofs.Distance.{placement_in}
+use Rattle.solid.proofs.Asked.{up_to_most}
+use Rattle.geometry.specs.Leaves.{ball}
+use Rattle.geometry.proofs.Balls.{ball_lawful}
 use Rattle.leaves.proofs.ball.BallSolid.clearance.Goals as goal
-
-pub offsets-requires : goal.offsets-requires
-offsets-requires c = within_in 1048576 c.args.p (search rules)
 
 pub returns : goal.returns
 returns c =
-    let m = c.args.self.now.centre in
-    let o = c.offsets.result in
-    ball_asked m c.args.p c.args.self.now.radius c.smallest.result o.x o.y o.z (search rules) c.offsets.ensures.x c.offsets.ensures.y c.offsets.ensures.z c.smallest.ensures
+    let s = c.args.self.now in
+    c.clearance_up_to.ensures ∙ up_to_most (ball s.centre s.radius) c.args.p (ball_lawful s.centre s.radius (placement_in s.centre s.is_placement))

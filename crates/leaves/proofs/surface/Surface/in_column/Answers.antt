@@ -1,19 +1,26 @@
-use Rattle.std.proofs.Common.{◌≡◌, true, pos, nat_abs, ◌∙◌, arith, w16, w32, to_z, of_z, rules}
-use lib.Signed.{le_z}
-use borrow.Author.Differences.{ints}
+use Rattle.std.proofs.Common.{◌≡◌, ◌+◌, ◌*◌, ◌<◌, length, true, pos, nat_abs, refl, arith, w32, to_z, of_z, rules}
 use Rattle.std.proofs.lemmas.Int.{to_z-of_z}
 use Rattle.geometry.specs.Leaves.{between, last, height}
-use Rattle.geometry.proofs.Surfaces.{column_is}
+use Rattle.geometry.proofs.Surfaces.{column_is, column_below}
 use Rattle.leaves.proofs.surface.Surface.in_column.Goals as goal
+
+pub bounds-self-column : goal.bounds-self-column
+bounds-self-column c =
+    let s = c.args.self.now.sheet in
+    let p = c.args.p in
+    let ex : between (pos 0) (last s.size.width) p.x ≡ true = search (rules, to_z-of_z) in
+    let ey : between (pos 0) (last s.size.depth) p.y ≡ true = search (rules, to_z-of_z) in
+    let x : to_z w32 (of_z w32 p.x) ≡ p.x = search (rules, to_z-of_z) in
+    let y : to_z w32 (of_z w32 p.y) ≡ p.y = search (rules, to_z-of_z) in
+    let below : nat_abs p.y * s.size.width + nat_abs p.x < length s.heights.now = omega (arith, s.full, column_below s.size.width s.size.depth s.heights.now p ex ey) in
+    search (rules, x, y, below)
 
 pub returns : goal.returns
 returns c =
-    let s = c.args.self.now in
+    let s = c.args.self.now.sheet in
     let p = c.args.p in
-    let h = c.height_at.result in
-    let ex : between (pos 0) (last s.sheet.width) p.x ≡ true = search (rules, to_z-of_z) in
-    let ey : between (pos 0) (last s.sheet.depth) p.y ≡ true = search (rules, to_z-of_z) in
-    let ez : to_z w32 (of_z w32 p.z) ≡ p.z = search (rules, to_z-of_z) in
-    let eh : to_z w32 (of_z w32 (to_z w16 (of_z w16 h))) ≡ h = omega (arith, ints) in
-    let at : h ≡ height s.sheet.width s.heights.now (nat_abs p.x) (nat_abs p.y) = search (rules, to_z-of_z) in
-    (λ t. le_z (ez t) (eh t)) ∙ column_is s.sheet.width s.sheet.depth s.heights.now p h ex ey at
+    let h = height s.size.width s.heights.now (nat_abs p.x) (nat_abs p.y) in
+    let ex : between (pos 0) (last s.size.width) p.x ≡ true = search (rules, to_z-of_z) in
+    let ey : between (pos 0) (last s.size.depth) p.y ≡ true = search (rules, to_z-of_z) in
+    let is = column_is s.size.width s.size.depth s.heights.now p h ex ey refl in
+    search (rules, to_z-of_z, is)

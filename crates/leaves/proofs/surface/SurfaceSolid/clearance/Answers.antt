@@ -1,8 +1,7 @@
-use Rattle.std.proofs.Common.{◌≡◌, true, pos, sym, arith, rules}
-use Rattle.std.proofs.lemmas.Int.{to_z-of_z}
+use Rattle.std.proofs.Common.{◌≡◌, true, false, ap, ◌∙◌, arith}
 use Rattle.std.proofs.lemmas.Grind.{common_steps}
 use Rattle.lattice.specs.Space.{within}
-use Rattle.geometry.specs.Leaves.{leaf_reach, above, beside, last}
+use Rattle.geometry.specs.Leaves.{leaf_reach, in_column, off_block}
 use Rattle.geometry.proofs.Surfaces.{asked_off}
 use Rattle.leaves.proofs.surface.SurfaceSolid.clearance.Goals as goal
 
@@ -10,8 +9,8 @@ pub returns : goal.returns
 returns c =
     let s = c.args.self.now in
     let p = c.args.p in
-    let i : within leaf_reach p ≡ true = grind (arith, common_steps, c.in_ok-check_asked.ensures) in
-    let ex : c.beside-x.result ≡ beside (pos 0) (last s.sheet.width) p.x = search (rules, to_z-of_z) in
-    let ey : c.beside-y.result ≡ beside (pos 0) (last s.sheet.depth) p.y = search (rules, to_z-of_z) in
-    let ez : c.above-z.result ≡ above p.z s.top = search (rules, to_z-of_z) in
-    asked_off s.sheet.width s.sheet.depth s.heights.now p s.top c.max-3.result c.beside-x.result c.beside-y.result c.above-z.result i (sym c.if-in_column.ensures) s.highest ex ey ez (omega arith)
+    let at : c.in_ok-p.p.at ≡ p = grind (arith, common_steps, c.in_ok-p.ensures) in
+    let i : within leaf_reach p ≡ true = grind (arith, common_steps, c.in_ok-p.ensures) in
+    let m : in_column s.sheet.size.width s.sheet.size.depth s.sheet.heights.now p ≡ false = grind (arith, common_steps, at, c.in_column.ensures) in
+    let off : c.off_block.result ≡ off_block s.sheet.size.width s.sheet.size.depth s.top p = c.off_block.ensures ∙ ap (off_block s.sheet.size.width s.sheet.size.depth s.top) at in
+    asked_off s.sheet.size.width s.sheet.size.depth s.sheet.heights.now p s.top c.max.result i m s.highest (omega (arith, off))
