@@ -1,14 +1,13 @@
 -- A lawful body along a ray, by its members and clearances at the ray's points.
-use Rattle.std.proofs.Common.{◌≡◌, ℕ, ◌≤◌, Bool, true, Ok, Err, Result, IsOk, refl, sym, ap, ◌∙◌, arith}
-use Rattle.std.proofs.lemmas.Bool.{cond-true, and_from, le-leb}
-use Rattle.lattice.specs.Space.{In, within}
+use Rattle.std.proofs.Common.{◌≡◌, ℕ, ◌≤◌, min, Bool, true, Ok, Result, sym, ap, ◌∙◌, arith}
+use Rattle.lattice.specs.Space.{In}
 use Rattle.lattice.specs.declared.Point.{Point}
 use Rattle.lattice.specs.declared.direction.Direction.{Direction}
 use Rattle.lattice.proofs.Distance.{in_less}
 use Rattle.solid.specs.declared.QuestionFault.{QuestionFault}
-use Rattle.solid.specs.declared.QuestionFault.TheVariants.{BeyondReach}
 use Rattle.solid.specs.Body.{Body, Lawful}
-use Rattle.solid.specs.Answer.{answer}
+use Rattle.solid.specs.Answer.{answer_up_to}
+use Rattle.solid.proofs.Asked.{up_to_in}
 use Rattle.march.specs.View.{along}
 use Rattle.march.proofs.Space.{dist_along}
 use Rattle.march.proofs.Ray.{Clears, Rides}
@@ -34,13 +33,6 @@ module _ (p : Point) (d : Direction) (far : ℕ) (ray : (t : ℕ) → t ≤ far 
     slope = λ s t le ht. omega (arith, law.slope (along p s d) (along p t d) (reached s (omega arith)) (reached t ht), dist_along p d s t le);
   }
 
--- in the working range a body that reaches as far answers its clearance
-answer_in : (b : Body) (p : Point) → In 32767 p → 32767 ≤ b.reach → answer b p ≡ Ok (b.clear p)
-answer_in b p h deep =
-    let i = in_less 32767 b.reach p deep h in
-    cond-true (within b.reach p) (Ok (b.clear p)) (Err BeyondReach)
-    (and_from _ _ (le-leb _ _ i.0) (and_from _ _ (le-leb _ _ i.1) (le-leb _ _ i.2)))
-
--- so a question there is answered
-pub answered_in : (b : Body) (p q : Point) (o : Result ℕ QuestionFault) → o ≡ answer b q → q ≡ p → In 32767 p → 32767 ≤ b.reach → IsOk o
-answered_in b p q o e same h deep = rw (e ∙ ap (answer b) same ∙ answer_in b p h deep) refl
+-- a question in the working range is answered by a body that reaches as far
+pub answered_in : (most : ℕ) (b : Body) (p q : Point) (o : Result ℕ QuestionFault) → o ≡ answer_up_to most b q → q ≡ p → In 32767 p → 32767 ≤ b.reach → o ≡ Ok (min most (b.clear p))
+answered_in most b p q o e same h deep = e ∙ ap (answer_up_to most b) same ∙ up_to_in most b p (in_less 32767 b.reach p deep h)

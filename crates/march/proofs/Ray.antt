@@ -1,9 +1,9 @@
 -- One ray, by the clearance c and the members M at each t of it.
-use Rattle.std.proofs.Common.{◌≡◌, ℕ, zero, suc, ◌+◌, ◌-◌, ◌<◌, ◌≤◌, Bool, true, false, cond, eqb, ltb, leb, sym, refl, ap, ◌∙◌, subst, inl, inr, suc-add, zero-add, one-add, arith}
-use Rattle.std.proofs.lemmas.Bool.{cond_both, eqb-true, eqb-false, ltb-true, ltb-false, cases_Bool, both_ways, cases_lt, and_from, and_parts, le-leb, leb-true}
+use Rattle.std.proofs.Common.{◌≡◌, ℕ, zero, suc, ◌+◌, ◌-◌, ◌<◌, ◌≤◌, min, Bool, true, false, cond, eqb, ltb, leb, sym, refl, ap, ◌∙◌, subst, inl, inr, suc-add, zero-add, one-add, arith}
+use Rattle.std.proofs.lemmas.Bool.{cond_both, cond-true, eqb-true, eqb-false, ltb-true, ltb-false, cases_Bool, both_ways, cases_lt, and_from, and_parts, le-leb, leb-true}
 use Rattle.march.specs.declared.pixel.Pixel.{Pixel}
 use Rattle.march.specs.declared.pixel.Pixel.TheVariants.{Marching, Hit, Miss}
-use Rattle.march.specs.March.{stepped, marches, probes, sane, settled, Takes, hits, misses, goes_on, Right}
+use Rattle.march.specs.March.{stepped, after_step, marches, probes, sane, settled, Takes, hits, misses, goes_on, Right}
 
 -- the three ways that a step can go
 pub stepped_by : (P : Pixel → Type 0) (far t n c : ℕ) → (c ≡ 0 → P (Hit t (n + 1))) → (0 < c → far < t + c → P (Miss (n + 1))) → (0 < c → t + c ≤ far → P (Marching (t + c) (n + 1))) → P (stepped far t n c)
@@ -14,6 +14,14 @@ stepped_by P far t n c hit miss on =
     cond_both (ltb far (t + c)) (Miss (n + 1)) (Marching (t + c) (n + 1)) P
     (λ l. miss some (ltb-true far (t + c) l))
     (λ l. on some (ltb-false far (t + c) l)))
+
+-- a step wants no clearance above what leads one past the end
+pub stepped_up_to : (far t n c : ℕ) → t ≤ far → stepped far t n (min (far - t + 1) c) ≡ stepped far t n c
+stepped_up_to far t n c le =
+    stepped_by (λ p. stepped far t n (min (far - t + 1) c) ≡ p) far t n c
+    (λ z. let e : min (far - t + 1) c ≡ c = omega arith in ap (stepped far t n) e ∙ sym (stepped_by (λ p. Hit t (n + 1) ≡ p) far t n c (λ _. refl) (λ y _. absurd (omega arith)) (λ y _. absurd (omega arith))))
+    (λ y l. stepped_by (λ p. p ≡ Miss (n + 1)) far t n (min (far - t + 1) c) (λ z. absurd (omega arith)) (λ _ _. refl) (λ _ z. absurd (omega arith)))
+    (λ y l. let e : min (far - t + 1) c ≡ c = omega arith in ap (stepped far t n) e ∙ sym (stepped_by (λ p. Marching (t + c) (n + 1) ≡ p) far t n c (λ z. absurd (omega arith)) (λ _ z. absurd (omega arith)) (λ _ _. refl)))
 
 -- what each step keeps, settling keeps
 pub settled_keeps : (P : Pixel → Type 0) (clear : ℕ → ℕ) (far : ℕ) → ((t n : ℕ) → P (Marching t n) → P (stepped far t n (clear t))) → (budget : ℕ) (p : Pixel) → P p → P (settled clear far budget p).0
@@ -42,6 +50,20 @@ sane_step far t n c h l =
 
 pub sane_on : (far t n c : ℕ) → sane far (Marching t n) ≡ true → sane far (stepped far t n c) ≡ true
 sane_on far t n c e = let h = sane_parts far t n e in sane_step far t n c h.0 h.1
+
+-- the step of a pixel that a march leaves
+stepped_sane : (clear : ℕ → ℕ) (far t n : ℕ) → sane far (Marching t n) ≡ true → after_step clear far (Marching t n) ≡ stepped far t n (clear t)
+stepped_sane clear far t n e = cond-true (sane far (Marching t n)) _ _ e
+
+pub sane_after : (clear : ℕ → ℕ) (far : ℕ) (p : Pixel) → sane far p ≡ true → sane far (after_step clear far p) ≡ true
+sane_after clear far (Marching t n) e = ap (sane far) (stepped_sane clear far t n e) ∙ sane_on far t n (clear t) e
+sane_after clear far (Hit d n) e = e
+sane_after clear far (Miss n) e = e
+
+pub settled_after : (clear : ℕ → ℕ) (far budget : ℕ) (p : Pixel) → marches p ≡ true → sane far p ≡ true → settled clear far budget (after_step clear far p) ≡ settled clear far (suc budget) p
+settled_after clear far b (Marching t n) m e = ap (settled clear far b) (stepped_sane clear far t n e)
+settled_after clear far b (Hit d n) m e = absurd (both_ways false refl m)
+settled_after clear far b (Miss n) m e = absurd (both_ways false refl m)
 
 pub sane_probes : (far : ℕ) (p : Pixel) → sane far p ≡ true → probes p ≤ far + 1
 sane_probes far (Marching t n) e = let h = sane_parts far t n e in omega arith

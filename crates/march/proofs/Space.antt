@@ -1,5 +1,5 @@
 -- The points of a ray: two of them are no further apart than their t, and all lie in the working range.
-use Rattle.std.proofs.Common.{◌≡◌, ℕ, zero, suc, ◌+◌, ◌-◌, ◌<◌, ◌≤◌, ℤ, pos, negsuc, ◌+ℤ◌, ◌*ℤ◌, nat_abs, arith, w32, to_z, of_z}
+use Rattle.std.proofs.Common.{ℕ, zero, suc, ◌+◌, ◌-◌, ◌<◌, ◌≤◌, ℤ, pos, negsuc, ◌+ℤ◌, ◌*ℤ◌, nat_abs, arith}
 use Rattle.std.proofs.lemmas.Int.{ints}
 use Rattle.lattice.specs.Space.{gap, dist, In}
 use Rattle.lattice.specs.declared.Point.{Point}
@@ -22,15 +22,6 @@ size_along a (pos (suc zero)) n r m h ha hn = omega (arith, ints)
 size_along a (pos (suc (suc k))) n r m h ha hn = absurd (omega arith)
 size_along a (negsuc zero) n r m h ha hn = omega (arith, ints)
 size_along a (negsuc (suc k)) n r m h ha hn = absurd (omega arith)
-
--- the same, as the code computes it in 32 bits
-pub ahead_is : (a d : ℤ) (n : ℕ) → nat_abs a ≤ 32767 → n ≤ 4095 → nat_abs d ≤ 1
-    → to_z w32 (of_z w32 (to_z w32 (of_z w32 a) +ℤ to_z w32 (of_z w32 (to_z w32 n *ℤ to_z w32 (of_z w32 d))))) ≡ a +ℤ (pos n *ℤ d)
-ahead_is a (pos zero) n ha hn h = omega (arith, ints)
-ahead_is a (pos (suc zero)) n ha hn h = omega (arith, ints)
-ahead_is a (pos (suc (suc k))) n ha hn h = absurd (omega arith)
-ahead_is a (negsuc zero) n ha hn h = omega (arith, ints)
-ahead_is a (negsuc (suc k)) n ha hn h = absurd (omega arith)
 
 -- at most m steps from a point whose parts are at most r in size
 pub in_along : (p : Point) (d : Direction) (n r m : ℕ) → In r p → n ≤ m → In (r + m) (along p n d)
@@ -61,6 +52,3 @@ start_in v i j hi hj = in_along (along v.origin i v.across) v.down j 16447 63 (a
 
 pub point_in : (v : View) (i j t : ℕ) → i < v.width → j < v.height → t ≤ v.far → In 32767 (point v i j t)
 point_in v i j t hi hj ht = ray_in (start v i j) v.ray t v.far (start_in v i j hi hj) v.close ht
-
-pub point_dist : (v : View) (i j s t : ℕ) → s ≤ t → dist (point v i j s) (point v i j t) ≤ t - s
-point_dist v i j s t le = dist_along (start v i j) v.ray s t le

@@ -46,6 +46,18 @@ plain_view v = record {
   far = v.far;
 }
 
+-- the view of no pixels
+abbrev pub blank : PlainView
+blank = record {
+  origin = record { x = pos 0; y = pos 0; z = pos 0 };
+  ray = (pos 0, pos 0, pos 1);
+  across = (pos 1, pos 0, pos 0);
+  down = (pos 0, pos 1, pos 0);
+  width = 0;
+  height = 0;
+  far = 0;
+}
+
 abbrev pub plain_in : Result View ViewFault → Result PlainView ViewFault
 plain_in (Ok v) = Ok (plain_view v)
 plain_in (Err f) = Err f

@@ -1,5 +1,5 @@
 -- One ray's march: the clearance at each t of its ray is all that it sees.
-use Rattle.std.specs.Prelude.{◌≡◌, ℕ, zero, suc, ◌+◌, ◌<◌, ◌≤◌, Bool, true, false, cond, ◌&&◌, ◌==◌, nat_le, nat_lt}
+use Rattle.std.specs.Prelude.{◌≡◌, ℕ, zero, suc, ◌+◌, ◌<◌, ◌≤◌, Bool, true, false, cond, if◌then◌else◌, ◌&&◌, ◌==◌, nat_le, nat_lt}
 use Rattle.march.specs.declared.pixel.Pixel.{Pixel}
 use Rattle.march.specs.declared.pixel.Pixel.TheVariants.{Marching, Hit, Miss}
 
@@ -26,6 +26,12 @@ abbrev pub sane : ℕ → Pixel → Bool
 sane far (Marching t n) = nat_le t far && nat_le n t
 sane far (Hit d n) = nat_le d far && nat_le n (far + 1)
 sane far (Miss n) = nat_le n (far + 1)
+
+-- a pixel after a step along its ray: a settled one stays as it is, and so does one whose numbers no march leaves
+abbrev pub after_step : (clear : ℕ → ℕ) (far : ℕ) → Pixel → Pixel
+after_step clear far (Marching t n) = if sane far (Marching t n) then stepped far t n (clear t) else Marching t n
+after_step clear far (Hit d n) = Hit d n
+after_step clear far (Miss n) = Miss n
 
 -- a ray stepped until it settles or the budget is spent, and what is left of the budget
 abbrev pub settled : (clear : ℕ → ℕ) (far budget : ℕ) → Pixel → Pixel × ℕ

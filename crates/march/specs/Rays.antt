@@ -1,11 +1,10 @@
 -- What the calls on a ray answer.
-use Rattle.std.specs.Prelude.{◌≡◌, ℕ, ◌+◌, ◌<◌, ◌≤◌, Bool, false, cond, ◌&&◌, pos, ◌+ℤ◌, ◌*ℤ◌, Some, None, Ok, Err, Option, Result, nat_le, nat_lt}
+use Rattle.std.specs.Prelude.{◌≡◌, ℕ, ◌+◌, ◌<◌, ◌≤◌, Bool, false, cond, ◌&&◌, pos, ◌+ℤ◌, ◌*ℤ◌, Some, None, Ok, Err, Option, Result, nat_lt}
 use Rattle.lattice.specs.declared.Point.{Point}
 use Rattle.solid.specs.Body.{Body}
 use Rattle.march.specs.declared.view.ViewNumbers.{ViewNumbers}
 use Rattle.march.specs.declared.pixel.Pixel.{Pixel}
 use Rattle.march.specs.declared.pixel.Pixel.TheVariants.{Marching as marching, Hit as hit, Miss as miss}
-use Rattle.march.specs.declared.rays.Ray.{Ray}
 use Rattle.march.specs.declared.rays.Marching.{Marching}
 use Rattle.march.specs.declared.rays.Outcome.{Outcome}
 use Rattle.march.specs.declared.rays.Outcome.TheVariants.{Hit, Miss}
@@ -63,19 +62,6 @@ state s = elim s.outcome [ Hit d ↦ hit d s.probes | Miss ↦ miss s.probes ]
 abbrev pub depth_of : Outcome → Option ℕ
 depth_of (Hit d) = Some d
 depth_of Miss = None
-
--- what a step leaves, as a pixel's state
-abbrev pub pixel_of : Stepped → Pixel
-pixel_of (On m) = marching m.t m.probes
-pixel_of (Done s) = state s
-
--- a ray taken up again at t, with so many probes
-abbrev pub resumed_in : Option Marching → Option (Ray × ℕ × ℕ)
-resumed_in (Some m) = Some (m.ray, m.t, m.probes)
-resumed_in None = None
-
-abbrev pub resumed : Ray → (t probes : ℕ) → Option (Ray × ℕ × ℕ)
-resumed r t n = cond (nat_le t r.far && nat_le n t) (Some (r, t, n)) None
 
 -- What a step leaves: the ray as it marches on, or the state in which it has settled.
 pub data PlainStepped : Type 0 where

@@ -1,8 +1,11 @@
 -- The points of a pixel's ray.
-use Rattle.std.specs.Prelude.{ℕ, ◌+◌, ◌*◌, Bool, cond, ◌&&◌, pos, ◌+ℤ◌, ◌*ℤ◌, Some, None, Option, nat_le, nat_lt}
+use Rattle.std.specs.Prelude.{ℕ, ◌+◌, ◌*◌, Bool, if◌then◌else◌, ◌&&◌, pos, ◌+ℤ◌, ◌*ℤ◌, Ok, Err, Result, nat_lt}
 use Rattle.lattice.specs.declared.Point.{Point}
 use Rattle.lattice.specs.declared.direction.Direction.{Direction}
+use Rattle.solid.specs.Body.{Body}
 use Rattle.march.specs.declared.view.View.{View}
+use Rattle.march.specs.declared.view.PixelFault.{PixelFault}
+use Rattle.march.specs.declared.view.PixelFault.TheVariants.{NoPixel}
 use Rattle.march.specs.declared.rays.Ray.{Ray}
 
 -- n steps from p in a direction
@@ -16,30 +19,26 @@ start v i j = along (along v.origin i v.across) j v.down
 abbrev pub point : View → (i j t : ℕ) → Point
 point v i j t = along (start v i j) t v.ray
 
--- that point, where the view has the pixel and its rays go as far
-abbrev pub point_answer : View → (i j t : ℕ) → Option Point
-point_answer v i j t = cond (nat_lt i v.width && (nat_lt j v.height && nat_le t v.far)) (Some (point v i j t)) None
-
 -- has the view a pixel (i, j)?
 abbrev pub has : View → (i j : ℕ) → Bool
 has v i j = nat_lt i v.width && nat_lt j v.height
 
 -- the place of that pixel, row by row
-abbrev pub place_answer : View → (i j : ℕ) → Option ℕ
-place_answer v i j = cond (has v i j) (Some (j * v.width + i)) None
+abbrev pub place_answer : View → (i j : ℕ) → Result ℕ PixelFault
+place_answer v i j = if has v i j then Ok (j * v.width + i) else Err NoPixel
 
 -- a ray by what it is made of: its start, its direction and its far
 abbrev pub line : Ray → Point × Direction × ℕ
 line r = (r.start, r.toward, r.far)
 
-abbrev pub line_in : Option Ray → Option (Point × Direction × ℕ)
-line_in (Some r) = Some (line r)
-line_in None = None
+abbrev pub line_in : Result Ray PixelFault → Result (Point × Direction × ℕ) PixelFault
+line_in (Ok r) = Ok (line r)
+line_in (Err f) = Err f
 
 -- the ray of pixel (i, j)
-abbrev pub line_answer : View → (i j : ℕ) → Option (Point × Direction × ℕ)
-line_answer v i j = cond (has v i j) (Some (start v i j, v.ray, v.far)) None
+abbrev pub line_answer : View → (i j : ℕ) → Result (Point × Direction × ℕ) PixelFault
+line_answer v i j = if has v i j then Ok (start v i j, v.ray, v.far) else Err NoPixel
 
--- the point at t of a ray
-abbrev pub on_line : Ray → (t : ℕ) → Option Point
-on_line r t = cond (nat_le t r.far) (Some (along r.start t r.toward)) None
+-- the clearance of a body at each t of a ray
+abbrev pub clear_along : Body → Ray → (t : ℕ) → ℕ
+clear_along b r t = b.clear (along r.start t r.toward)

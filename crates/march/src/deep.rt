@@ -1,6 +1,7 @@
 //! Solids that answer on all of the working range.
-ghost use Rattle.std.specs.Prelude.{◌≡◌, ◌<◌, ◌≤◌, MatchOption};
+ghost use Rattle.std.specs.Prelude.{◌≡◌, ◌<◌, ◌≤◌, MatchResult};
 
+use crate::rays::StepFault;
 use solid::Solid;
 
 /// The working range is the points whose coordinates are at most this, in size.
@@ -14,13 +15,13 @@ pub struct Deep<'a, S: Solid> {
 }
 
 impl<'a, S: Solid> Deep<'a, S> {
-    /// That solid; none where its reach is under 32,767.
-    pub fn of(solid: &'a S) -> Option<Deep<'a, S>>
-        ensures { MatchOption result ((S.Solid.body solid.now).reach < 32767) (λ deep. deep.solid.now ≡ solid.now) }
+    /// That solid, where its reach is at least 32,767.
+    pub fn of(solid: &'a S) -> Result<Deep<'a, S>, StepFault>
+        ensures { MatchResult result (λ deep. deep.solid.now ≡ solid.now) (λ _. (S.Solid.body solid.now).reach < 32767) }
     {
         if solid.reach() < WORKING {
-            return None;
+            return Err(StepFault::Shallow);
         }
-        Some(Deep { solid })
+        Ok(Deep { solid })
     }
 }

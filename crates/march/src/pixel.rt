@@ -1,4 +1,11 @@
 //! A pixel's state.
+ghost use Rattle.std.specs.Prelude.{◌≡◌};
+ghost use Rattle.march.specs.March.{after_step};
+ghost use Rattle.march.specs.View.{clear_along};
+
+use crate::deep::Deep;
+use crate::rays::Ray;
+use solid::Solid;
 
 /// How far the ray of a pixel has come. It marches, at `t` along its ray, or it has settled, as a
 /// hit at a depth or as a miss; `probes` counts the questions that were asked for it.
@@ -7,4 +14,20 @@ pub enum Pixel {
     Marching { t: u32, probes: u32 },
     Hit { depth: u32, probes: u32 },
     Miss { probes: u32 },
+}
+
+impl Pixel {
+    /// The pixel after one step along its ray, over a solid that answers on all of the working
+    /// range. A settled pixel stays as it is. So does one with a t past the end of the ray, or with
+    /// more probes than its t: no march leaves such a pixel.
+    pub fn stepped<S: Solid>(self, ray: &Ray, solid: &Deep<'_, S>) -> Pixel
+        ensures { result ≡ after_step (clear_along (S.Solid.body solid.now.solid.now) ray.now) ray.now.far self }
+    {
+        match self {
+            Pixel::Marching { t, probes } if t <= ray.far && probes <= t => {
+                ray.probe(t, probes, solid)
+            }
+            _ => self,
+        }
+    }
 }

@@ -1,12 +1,15 @@
 //! A ray: it marches until it settles, as a hit or as a miss.
-ghost use Rattle.std.specs.Prelude.{◌≡◌, ◌≤◌, unsigned_abs};
+ghost use Rattle.std.specs.Prelude.{◌≡◌, ◌≤◌, unsigned_abs, Some};
+ghost use Rattle.refusal.specs.Texts.{refusal_text};
 ghost use Rattle.march.specs.Told.{step_told, ray_told};
-ghost use Rattle.march.specs.declared.rays.RayFault.TheVariants.{View};
+ghost use Rattle.march.specs.declared.rays.RayFault.TheVariants.{View, NoPixel};
 
-use crate::view::ViewFault;
+use crate::view::{PixelFault, ViewFault};
 use lattice::Point;
 use lattice::direction::Direction;
+use refusal::told::Told;
 use refusal::{Refusal, Rule};
+use std::fmt;
 
 pub mod steps;
 
@@ -50,8 +53,7 @@ impl Marching {
     }
 }
 
-/// How a ray settled: at the depth of its first contact, or with none up to its end. `Settled::depth`
-/// gives the depth as an `Option`; here a miss has its name, as it is no lack of an outcome.
+/// How a ray settled: at the depth of its first contact, or with none up to its end.
 #[derive(Clone, Copy, PartialEq, Eq, Debug)]
 pub enum Outcome {
     Hit { depth: u32 },
@@ -65,8 +67,7 @@ pub struct Settled {
     probes: u32,
 }
 
-/// What a step leaves: a ray that marches on, or one that has settled. A `Result` would call one of
-/// them a fault, and a `ControlFlow` would say what a loop does and not what the ray is.
+/// What a step leaves: a ray that marches on, or one that has settled.
 #[derive(Drop)]
 pub enum Stepped {
     On(Marching),
@@ -91,6 +92,14 @@ impl Refusal for StepFault {
 
     fn place(&self) -> u32 {
         0
+    }
+}
+
+impl fmt::Display for StepFault {
+    ghost output = { λ fault. Some (refusal_text (step_told fault)) };
+
+    fn fmt<W: fmt::Write>(&self, f: &mut fmt::Formatter<W>) -> fmt::Result {
+        Told::of(self).fmt(f)
     }
 }
 
@@ -121,10 +130,26 @@ impl Refusal for RayFault {
     }
 }
 
+impl fmt::Display for RayFault {
+    ghost output = { λ fault. Some (refusal_text (ray_told fault)) };
+
+    fn fmt<W: fmt::Write>(&self, f: &mut fmt::Formatter<W>) -> fmt::Result {
+        Told::of(self).fmt(f)
+    }
+}
+
 impl From<ViewFault> for RayFault {
     ghost from_gives = { λ f r. r ≡ View f };
 
     fn from(cause: ViewFault) -> RayFault {
         RayFault::View(cause)
+    }
+}
+
+impl From<PixelFault> for RayFault {
+    ghost from_gives = { λ _ r. r ≡ NoPixel };
+
+    fn from(_fault: PixelFault) -> RayFault {
+        RayFault::NoPixel
     }
 }

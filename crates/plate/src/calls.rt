@@ -1,14 +1,12 @@
 //! The calls on a plate.
 ghost use Rattle.std.specs.Prelude.{◌≡◌, [], length, MatchResult};
-ghost use Rattle.march.specs.Checks.{plain_view};
+ghost use Rattle.march.specs.Checks.{plain_view, blank};
 ghost use Rattle.plate_log.specs.Log.{sweeping, touching, reading, writing, done, written, pixels, stands, counts_of, state_of, bytes_of};
-ghost use Rattle.plate_log.specs.Opening.{blank, opening};
+ghost use Rattle.plate_log.specs.Opening.{opening};
 ghost use Rattle.plate_log.specs.Example.{Worked};
 ghost use Rattle.plate_log.specs.Law.{Promise, Whole};
 
 use super::{HEAD, Plate, count_marching, is_marching, put_image, renew, settle, sweep_all};
-use lattice::Point;
-use lattice::direction::Direction;
 use march::deep::Deep;
 use march::pixel::Pixel;
 use march::view::{View, ViewNumbers};
@@ -25,20 +23,10 @@ impl<'a> Plate<'a> {
         ensures lender { result.records.ghost_name ≡ records.entry.ghost_name }
         ensures worked { Worked }
     {
-        let origin = Point { x: 0, y: 0, z: 0 };
-        let ray = Direction { x: 0, y: 0, z: 1 };
-        let across = Direction { x: 1, y: 0, z: 0 };
-        let down = Direction { x: 0, y: 1, z: 0 };
-        let view = View {
-            origin,
-            ray,
-            across,
-            down,
-            width: 0,
-            height: 0,
-            far: 0,
-        };
-        Plate { records, view }
+        Plate {
+            records,
+            view: View::blank(),
+        }
     }
 
     /// Opens the plate anew, with a marching record for each pixel of the view. Refused, it leaves
@@ -67,7 +55,7 @@ impl<'a> Plate<'a> {
         ensures view { self.new.view ≡ self.old.view }
         ensures lender { self.new.records.ghost_name ≡ self.old.records.ghost_name }
     {
-        let deep = Deep::of(solid).ok_or(PlateFault::Shallow)?;
+        let deep = Deep::of(solid)?;
         let view = self.view;
         let pixels = &mut self.records[..view.pixels()];
         let spent = sweep_all(pixels, view, &deep, budget);
@@ -75,9 +63,8 @@ impl<'a> Plate<'a> {
         Ok((spent, left))
     }
 
-    /// Steps one pixel until it settles or the budget is spent. The probes that it spent, and, counted
-    /// as a sweep counts them, the pixels that still march: 1 or 0, so that one definition (`counts_of`) serves
-    /// both.
+    /// Steps one pixel until it settles or the budget is spent. The probes that it spent, and 1 while the
+    /// pixel marches, else 0: the pixels that still march, as a sweep counts them.
     pub fn touch<S: Solid>(
         &mut self,
         i: u32,
@@ -90,8 +77,8 @@ impl<'a> Plate<'a> {
         ensures view { self.new.view ≡ self.old.view }
         ensures lender { self.new.records.ghost_name ≡ self.old.records.ghost_name }
     {
-        let ray = self.view.ray_of(i, j).ok_or(PlateFault::NoPixel)?;
-        let deep = Deep::of(solid).ok_or(PlateFault::Shallow)?;
+        let ray = self.view.ray_of(i, j)?;
+        let deep = Deep::of(solid)?;
         let place = self.view.place_of(i, j).unwrap();
         let records = &mut *self.records;
         let pixel = &mut records[place];
@@ -104,7 +91,7 @@ impl<'a> Plate<'a> {
         ensures line { (state_of result, self.now.records.now) ≡ done self.now.view self.now.records.now (reading i j) }
         ensures promise { Promise self.now.view self.now.records.now self.now.records.now (reading i j) }
     {
-        let place = self.view.place_of(i, j).ok_or(PlateFault::NoPixel)?;
+        let place = self.view.place_of(i, j)?;
         Ok(self.records[place])
     }
 

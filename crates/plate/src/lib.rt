@@ -3,14 +3,14 @@
 #![tactic(auto)]
 
 ghost use Rattle.std.specs.Prelude.{◌≡◌, ℕ, ◌+◌, ◌-◌, ◌*◌, ◌≤◌, true, ◌++◌, length, take, drop, replicate};
-ghost use Rattle.march.specs.View.{along};
-ghost use Rattle.march.specs.March.{fresh, sane, marches, stepped, settled};
+ghost use Rattle.march.specs.View.{clear_along};
+ghost use Rattle.march.specs.March.{fresh, sane, marches, settled};
 ghost use Rattle.plate_log.specs.Sweep.{all_sane, marching, swept};
-ghost use Rattle.plate_log.specs.Log.{area, along_ray, clear_along, word, image};
+ghost use Rattle.plate_log.specs.Log.{area, along_ray, word, image};
 
 use march::deep::Deep;
 use march::pixel::Pixel;
-use march::rays::{Marching, Ray};
+use march::rays::Ray;
 use march::view::View;
 use solid::Solid;
 use words::kind::{FIRST_OF_TWO, Kind};
@@ -26,15 +26,6 @@ pub struct Plate<'a> {
     view: View,
     ghost room: { area view ≤ length records.now },
     ghost sound: { all_sane view.far (take (area view) records.now) ≡ true },
-}
-
-/// A step of a pixel whose ray has come to t, with so many probes.
-fn step<S: Solid>(ray: Ray, t: u32, probes: u32, solid: &Deep<'_, S>) -> Pixel
-    requires { (t ≤ ray.far) × (probes ≤ t) }
-    ensures { result ≡ stepped ray.far t probes ((S.Solid.body solid.now.solid.now).clear (along ray.start t ray.toward)) }
-{
-    let marching = Marching::resume(ray, t, probes).unwrap();
-    marching.advance(solid).into()
 }
 
 fn is_marching(pixel: Pixel) -> bool
@@ -58,9 +49,6 @@ fn renew(pixels: &mut [Pixel])
     pixels.fill(Pixel::Marching { t: 0, probes: 0 });
 }
 
-// That pixels are sane and as many as the view's is said where they are lent: a type over the lent slice
-// that holds it would be `Plate` once more.
-
 /// Steps the pixels row by row, each until it settles, and stops the moment the budget is spent.
 /// How much was spent.
 fn sweep_all<S: Solid>(pixels: &mut [Pixel], view: View, solid: &Deep<'_, S>, budget: u32) -> u32
@@ -70,21 +58,18 @@ fn sweep_all<S: Solid>(pixels: &mut [Pixel], view: View, solid: &Deep<'_, S>, bu
     ensures spent { result ≡ budget - (swept (along_ray view (S.Solid.body solid.now.solid.now)) view.far budget 0 pixels.old).1 }
     ensures sound { all_sane view.far pixels.new ≡ true }
 {
-    let width = view.width as usize;
+    let width = view.width() as usize;
     let mut spent = 0;
-    // Rows, columns and steps are nested loops left from inside by a label, which is this project's rule for a
-    // sweep: it is plain then that a spent budget stops all three. `settle` has the steps of one pixel alone.
-    // Rows by `chunks_exact_mut`, and by `split_at_mut` of what is left, were tried: of the pixels
-    // after such a loop the checker knows nothing.
-    'sweep: for j in 0..view.height {
+    // Rows, columns and steps: a spent budget stops all three.
+    'sweep: for j in 0..view.height() {
         let from = j as usize * width;
         for (i, pixel) in pixels[from..from + width].iter_mut().enumerate() {
             let ray = view.ray_of(i as u32, j).unwrap();
-            while let Pixel::Marching { t, probes } = *pixel {
+            while is_marching(*pixel) {
                 if spent == budget {
                     break 'sweep;
                 }
-                *pixel = step(ray, t, probes, solid);
+                *pixel = pixel.stepped(&ray, solid);
                 spent += 1;
             }
         }
@@ -100,10 +85,10 @@ fn settle<S: Solid>(pixel: &mut Pixel, ray: Ray, solid: &Deep<'_, S>, budget: u3
     ensures sound { sane ray.far pixel.new ≡ true }
 {
     for spent in 0..budget {
-        let Pixel::Marching { t, probes } = *pixel else {
+        if !is_marching(*pixel) {
             return spent;
-        };
-        *pixel = step(ray, t, probes, solid);
+        }
+        *pixel = pixel.stepped(&ray, solid);
     }
     budget
 }
@@ -129,10 +114,9 @@ fn put_image(pixels: &[Pixel], view: View, out: &mut [u8])
     requires sound { all_sane view.far pixels.now ≡ true }
     ensures { out.new ≡ image view pixels.now ++ drop (4 * (2 + length pixels.now)) out.old }
 {
-    let start = Kind::Image.word(view.width * FIRST_OF_TWO + view.height);
+    let start = Kind::Image.word(view.width() * FIRST_OF_TWO + view.height());
     put(out, 0, start).unwrap();
-    put(out, 1, Kind::Number.word(view.far)).unwrap();
-    // A zip with `chunks_exact_mut` was tried: of the bytes after such a loop the checker knows nothing.
+    put(out, 1, Kind::Number.word(view.far())).unwrap();
     for (k, pixel) in pixels.iter().enumerate() {
         put(out, HEAD + k, word_of(*pixel)).unwrap();
     }

@@ -1,6 +1,6 @@
 -- What the calls on a plate's records answer and leave, as lines of a log.
 use mir.Val.{bool_byte}
-use Rattle.std.proofs.Common.{Bool, ◌≡◌, ℕ, ◌+◌, ◌-◌, ◌*◌, ◌<◌, ◌≤◌, true, false, cond, eqb, leb, List, ◌++◌, length, get_or, take, drop, set, replicate, Some, None, Option, sym, refl, ap, ◌∙◌, mul-le-mul, arith, length-append, length-drop, take-append-drop}
+use Rattle.std.proofs.Common.{Bool, ◌≡◌, ℕ, ◌+◌, ◌-◌, ◌*◌, ◌<◌, ◌≤◌, true, false, cond, eqb, leb, List, ◌++◌, length, get_or, take, drop, set, replicate, Ok, Err, Result, sym, refl, ap, ◌∙◌, mul-le-mul, arith, length-append, length-drop, take-append-drop}
 use lib.ListN.{length-replicate}
 use lib.Seq.{set-append_left}
 use Rattle.std.proofs.lemmas.List.{take_at, length-take-le, get_or-take, get_or_default}
@@ -8,6 +8,8 @@ use Rattle.std.proofs.lemmas.Bool.{cond-true, cond-false, cond_both, le-leb, lt-
 use Rattle.solid.specs.Body.{Body}
 use Rattle.march.specs.declared.pixel.Pixel.{Pixel}
 use Rattle.march.specs.declared.view.View.{View}
+use Rattle.march.specs.declared.view.PixelFault.{PixelFault}
+use Rattle.march.specs.declared.view.PixelFault.TheVariants.{NoPixel}
 use Rattle.march.specs.View.{place_answer}
 use Rattle.march.specs.March.{fresh, settled, marches}
 use Rattle.plate_log.specs.declared.fault.PlateFault.TheVariants.{StillMarching, NoRoom}
@@ -64,11 +66,11 @@ pub record Placed (v : View) (i j k : ℕ) : Type 0 where
   pub within : (i < v.width) × (j < v.height)
   pub inside : k < area v
 
-pub placed : (v : View) (i j k : ℕ) (o : Option ℕ) → o ≡ place_answer v i j → o ≡ Some k → Placed v i j k
+pub placed : (v : View) (i j k : ℕ) (o : Result ℕ PixelFault) → o ≡ place_answer v i j → o ≡ Ok k → Placed v i j k
 placed v i j k o is e = from (sym is ∙ e)
   where
-    from : place_answer v i j ≡ Some k → Placed v i j k
-    from = cond_both (has v i j) (Some (place v i j)) None (λ (o : Option ℕ). o ≡ Some k → Placed v i j k)
+    from : place_answer v i j ≡ Ok k → Placed v i j k
+    from = cond_both (has v i j) (Ok (place v i j)) (Err NoPixel) (λ (o : Result ℕ PixelFault). o ≡ Ok k → Placed v i j k)
         (λ h e.
         let w = has_parts v i j h in
         let at : k ≡ place v i j = cc in

@@ -81,3 +81,9 @@ module _ (v : View) (k : ℕ) (P : Pixel → Type 0) (Good : Body → Type 0)
 pub play_more : (v : View) (cs more : List Call) (ps : List Pixel) → last_of ps (play v ps (cs ++ more)) ≡ last_of (last_of ps (play v ps cs)) (play v (last_of ps (play v ps cs)) more)
 play_more v [] more ps = refl
 play_more v (c ∷ cs) more ps = play_more v cs more (line v ps c).1
+
+pub play_append : (v : View) (cs more : List Call) (ps : List Pixel) → play v ps (cs ++ more) ≡ play v ps cs ++ play v (last_of ps (play v ps cs)) more
+play_append v [] more ps = refl
+play_append v (c ∷ cs) more ps =
+    let l = line v ps c in
+    ap (λ (ls : List Line). record { call = c; answer = l.0; after = l.1 } ∷ ls) (play_append v cs more l.1)

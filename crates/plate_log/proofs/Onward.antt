@@ -1,5 +1,5 @@
 -- A sweep and a touch on their way, with a budget left: what going on from there gives.
-use Rattle.std.proofs.Common.{Some, Option, ltb, ◌≡◌, ℕ, suc, ◌+◌, ◌-◌, ◌*◌, ◌<◌, ◌≤◌, true, false, List, [], ◌∷◌, ◌++◌, length, get_or, take, drop, set, sym, refl, ap, ◌∙◌, append_assoc, append-nil, add-zero, arith, length-drop, take-append-drop}
+use Rattle.std.proofs.Common.{Ok, Result, ltb, ◌≡◌, ℕ, suc, ◌+◌, ◌-◌, ◌*◌, ◌<◌, ◌≤◌, true, false, List, [], ◌∷◌, ◌++◌, length, get_or, take, drop, set, sym, refl, ap, ◌∙◌, append_assoc, append-nil, add-zero, arith, length-drop, take-append-drop}
 use borrow.Rule.Slice.PartMut.{put_mid}
 use Rattle.std.proofs.lemmas.List.{drop_more, take_more_set, drop-set-lt, drop-drop, take_all, drop_all, length-take-le}
 use Rattle.std.proofs.lemmas.Nat.{mul-le}
@@ -8,33 +8,27 @@ use Rattle.std.proofs.lemmas.Bool.{and_parts, and_from, cond-true, lt-ltb}
 use Rattle.lattice.specs.declared.Point.{Point}
 use Rattle.solid.specs.Body.{Body}
 use Rattle.march.specs.declared.pixel.Pixel.{Pixel}
-use Rattle.march.specs.declared.pixel.Pixel.TheVariants.{Marching, Hit, Miss}
 use Rattle.march.specs.declared.view.View.{View}
 use Rattle.lattice.specs.declared.direction.Direction.{Direction}
 use Rattle.march.specs.declared.rays.Ray.{Ray}
-use Rattle.march.specs.View.{along, start, line, line_in, line_answer, has}
-use Rattle.march.specs.March.{fresh, sane, stepped, settled, marches}
-use Rattle.march.proofs.Ray.{settled_stays}
+use Rattle.march.specs.declared.view.PixelFault.{PixelFault}
+use Rattle.march.specs.View.{along, start, line, line_in, line_answer, has, clear_along}
+use Rattle.march.specs.March.{fresh, sane, after_step, settled, marches}
+use Rattle.march.proofs.Ray.{settled_stays, settled_after}
 use Rattle.plate_log.specs.Sweep.{all_sane, swept}
-use Rattle.plate_log.specs.Log.{area, place, clear_at, along_ray, clear_along}
+use Rattle.plate_log.specs.Log.{area, place, clear_at, along_ray}
 use Rattle.plate_log.proofs.Place.{from_pixel}
 use Rattle.plate_log.proofs.Steps.{swept_none}
 use Rattle.plate_log.proofs.Sums.{swept_length}
 
--- a pixel's state that is none of a march
-pub not_marching : (p : Pixel) → ((t n : ℕ) → p ≡ Marching t n → ⊥) → marches p ≡ false
-not_marching (Marching t n) h = absurd (h t n refl)
-not_marching (Hit d n) h = refl
-not_marching (Miss n) h = refl
-
 -- one pixel
 module _ (clear : ℕ → ℕ) (far spent budget : ℕ) (p : Pixel) (goal : Pixel × ℕ) (so_far : settled clear far (budget - spent) p ≡ goal) where
   -- it takes a step
-  pub step_on : (t n : ℕ) (q : Pixel) → p ≡ Marching t n → spent < budget → q ≡ stepped far t n (clear t) → settled clear far (budget - (spent + 1)) q ≡ goal
-  step_on t n q m l e =
+  pub step_on : marches p ≡ true → sane far p ≡ true → spent < budget → settled clear far (budget - (spent + 1)) (after_step clear far p) ≡ goal
+  step_on m s l =
       let b = budget - (spent + 1) in
       let more : suc b ≡ budget - spent = omega arith in
-      ap (settled clear far b) e ∙ ap (settled clear far (suc b)) (sym m) ∙ ap (λ (c : ℕ). settled clear far c p) more ∙ so_far
+      settled_after clear far b p m s ∙ ap (λ (c : ℕ). settled clear far c p) more ∙ so_far
 
   -- it has settled
   pub stays_on : marches p ≡ false → ◌≡◌ {A = Pixel × ℕ} (p, budget - spent) goal
@@ -124,24 +118,25 @@ row_swept v b j i budget (p ∷ ps) h =
     ap (λ (c : ℕ → ℕ). let s = settled c v.far budget p in let r = swept (along_row v b j) v.far s.1 (i + 1) ps in (s.0 ∷ r.0, r.1)) same
     ∙ ap (λ (r : List Pixel × ℕ). (s.0 ∷ r.0, r.1)) (row_swept v b j (i + 1) s.1 ps (omega arith) ∙ ap (λ (k : ℕ). swept (along_ray v b) v.far s.1 k ps) e)
 
--- row j of the pixels, which is as long as the view is wide
-module _ (v : View) (j n : ℕ) (ps : List Pixel) (all : length ps ≡ area v) (hj : j < v.height) (wide : n ≡ v.width) where
-  pub row_ends : j * v.width + n ≤ length ps
+-- row j of the pixels, which starts at k and is as long as the view is wide
+module _ (v : View) (j k n : ℕ) (ps : List Pixel) (all : length ps ≡ area v) (hj : j < v.height) (starts : k ≡ j * v.width) (wide : n ≡ v.width) where
+  pub row_ends : k + n ≤ length ps
   row_ends = omega (arith, mul-le (j + 1) v.width v.height v.width (omega arith) (omega arith))
 
-  pub row_long : length (take n (drop (j * v.width) ps)) ≡ v.width
-  row_long = length-take-le n (drop (j * v.width) ps) (omega (arith, length-drop (j * v.width) ps, row_ends)) ∙ wide
+  pub row_long : length (take n (drop k ps)) ≡ v.width
+  row_long = length-take-le n (drop k ps) (omega (arith, length-drop k ps, row_ends)) ∙ wide
 
   -- each pixel of the row has come as far as the budget goes
   pub row_done : (b : Body) (budget left : ℕ) (qs : List Pixel) (goal : List Pixel × ℕ)
-      → ◌≡◌ {A = List Pixel × ℕ} (qs, left) (swept (along_row v b j) v.far budget 0 (take n (drop (j * v.width) ps)))
-      → onward (along_ray v b) v.far (j * v.width) budget ps ≡ goal → onward (along_ray v b) v.far ((j + 1) * v.width) left (put_mid (j * v.width) n ps qs) ≡ goal
+      → ◌≡◌ {A = List Pixel × ℕ} (qs, left) (swept (along_row v b j) v.far budget 0 (take n (drop k ps)))
+      → onward (along_ray v b) v.far (j * v.width) budget ps ≡ goal → onward (along_ray v b) v.far ((j + 1) * v.width) left (put_mid k n ps qs) ≡ goal
   row_done b budget left qs goal e p =
-      let row = take n (drop (j * v.width) ps) in
-      let on : (j + 1) * v.width ≡ j * v.width + n = omega arith in
-      ap (λ (k : ℕ). onward (along_ray v b) v.far k left (put_mid (j * v.width) n ps qs)) on
-      ∙ next_row (along_ray v b) v.far (j * v.width) n budget left ps qs goal row_ends
-      (e ∙ row_swept v b j 0 budget row (omega (arith, row_long)) ∙ ap (λ (k : ℕ). swept (along_ray v b) v.far budget k row) (add-zero (j * v.width))) p
+      let row = take n (drop k ps) in
+      let on : (j + 1) * v.width ≡ k + n = omega arith in
+      ap (λ (x : ℕ). onward (along_ray v b) v.far x left (put_mid k n ps qs)) on
+      ∙ next_row (along_ray v b) v.far k n budget left ps qs goal row_ends
+      (e ∙ row_swept v b j 0 budget row (omega (arith, row_long)) ∙ ap (λ (x : ℕ). swept (along_ray v b) v.far budget x row) (add-zero (j * v.width) ∙ sym starts))
+      (ap (λ (x : ℕ). onward (along_ray v b) v.far x budget ps) starts ∙ p)
 
 -- the pixels of a list and of its parts
 module _ (far : ℕ) where
@@ -172,12 +167,12 @@ module _ (far : ℕ) where
       (ap (all_sane far) (drop-put_mid k n rs qs (k + n) (omega arith) (omega arith) l) ∙ (sane_split (k + n) rs e).1)
 
 -- the ray of pixel (i, j)
-module _ (v : View) (i j : ℕ) (hi : i < v.width) (hj : j < v.height) (o : Option Ray) (is : line_in o ≡ line_answer v i j) where
-  some_line : line_in o ≡ Some (start v i j, v.ray, v.far)
-  some_line = is ∙ cond-true (has v i j) _ _ (and_from (ltb i v.width) (ltb j v.height) (lt-ltb i v.width hi) (lt-ltb j v.height hj))
+module _ (v : View) (i j : ℕ) (hi : i < v.width) (hj : j < v.height) (o : Result Ray PixelFault) (is : line_in o ≡ line_answer v i j) where
+  is_line : line_in o ≡ Ok (start v i j, v.ray, v.far)
+  is_line = is ∙ cond-true (has v i j) _ _ (and_from (ltb i v.width) (ltb j v.height) (lt-ltb i v.width hi) (lt-ltb j v.height hj))
 
-  pub ray_line : (r : Ray) → o ≡ Some r → line r ≡ (start v i j, v.ray, v.far)
-  ray_line r e = let q : line_in (Some r) ≡ Some (start v i j, v.ray, v.far) = ap line_in (sym e) ∙ some_line in cc
+  pub ray_line : (r : Ray) → o ≡ Ok r → line r ≡ (start v i j, v.ray, v.far)
+  ray_line r e = let q : line_in (Ok r) ≡ Ok (start v i j, v.ray, v.far) = ap line_in (sym e) ∙ is_line in cc
 
 -- its far, and the clearance along it
 pub ray_far : (v : View) (i j : ℕ) (r : Ray) → line r ≡ (start v i j, v.ray, v.far) → r.far ≡ v.far

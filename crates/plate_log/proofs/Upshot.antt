@@ -7,6 +7,7 @@ use Rattle.lattice.specs.declared.Point.{Point}
 use Rattle.lattice.specs.Space.{In}
 use Rattle.solid.specs.Body.{Body, Lawful}
 use Rattle.geometry.proofs.Piles.{pile_lawful, pile_members, piles_stand}
+use Rattle.geometry.proofs.Near.{near_decides}
 use Rattle.march.specs.declared.pixel.Pixel.{Pixel}
 use Rattle.march.specs.declared.view.View.{View}
 use Rattle.march.specs.View.{start, point}
@@ -17,7 +18,7 @@ use Rattle.march.proofs.Bodies.{body_clears, body_rides}
 use Rattle.plate_log.specs.Sweep.{past, marching, spent}
 use Rattle.plate_log.specs.Log.{Call, Answer, log, line, play, opened, stands, pixel, along_ray, clear_at, place, area}
 use Rattle.plate_log.specs.Law.{Brought, Same, Piled, Shows, answered, budgets, calls_of, Rival, Held, Settles, Whole}
-use Rattle.plate_log.proofs.Lift.{log_keeps, play_more}
+use Rattle.plate_log.proofs.Lift.{log_keeps, play_more, play_append}
 use Rattle.plate_log.proofs.Place.{place_in, at_pixel, from_pixel}
 use Rattle.plate_log.proofs.Sanity.{new_sane}
 use Rattle.plate_log.proofs.Lines.{lines}
@@ -119,7 +120,13 @@ settles : Settles
 settles v b _ i j _ = let t = takes_some (clear_at v b i j) v.far (v.far + 1) 0 (omega arith) (omega arith) in (t.0, t.2)
 
 pub whole : Whole
-whole = record { piles = piles_stand; logs = held; settles = settles }
+whole = record {
+  piles = piles_stand;
+  near = near_decides;
+  logs = held;
+  prefixes = λ v cs more. play_append v cs more (opened v);
+  settles = settles;
+}
 
 -- one call more, as the plate answers it
 pub promised : (v : View) (ps qs : List Pixel) (c : Call) (a : Answer) → ◌≡◌ {A = Answer × List Pixel} (a, qs) (line v ps c)

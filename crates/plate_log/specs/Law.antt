@@ -4,13 +4,13 @@ use Rattle.lattice.specs.declared.Point.{Point}
 use Rattle.lattice.specs.Space.{In}
 use Rattle.solid.specs.Body.{Body, Lawful}
 use Rattle.geometry.specs.Pile.{Pile}
-use Rattle.geometry.specs.Stands.{PilesStand}
+use Rattle.geometry.specs.Stands.{PilesStand, NearDecides}
 use Rattle.march.specs.declared.pixel.Pixel.{Pixel}
 use Rattle.march.specs.declared.view.View.{View}
 use Rattle.march.specs.View.{point}
 use Rattle.march.specs.March.{marches, probes, Takes, Right}
 use Rattle.plate_log.specs.Sweep.{marching, spent}
-use Rattle.plate_log.specs.Log.{Call, Line, sweeping, touching, reading, writing, counted, told, wrote, refused, log, opened, stands, pixel, pixels, area, clear_at}
+use Rattle.plate_log.specs.Log.{Call, Line, sweeping, touching, reading, writing, counted, told, wrote, refused, play, log, opened, stands, pixel, pixels, area, clear_at}
 use Rattle.plate_log.specs.Fair.{Inside, Lines}
 
 -- the bodies brought to sweeps and touches that the plate accepted; one brought to a refused call is outside every premise
@@ -58,7 +58,7 @@ abbrev pub calls_of : List Line → List Call
 calls_of [] = []
 calls_of (l ∷ ls) = l.call ∷ calls_of ls
 
--- what holds after the calls cs, of whatever bodies, but for the last
+-- what holds after the calls cs: all but the last, whatever bodies they brought
 pub record Held (v : View) (cs : List Call) : Type 0 where
   -- the log has a line for each call
   pub each : calls_of (log v cs) ≡ cs
@@ -81,8 +81,16 @@ Promise v rs qs c = (cs : List Call) → pixels v rs ≡ stands v cs → (pixels
 abbrev pub Settles : Type 0
 Settles = (v : View) (b : Body) → Lawful b → (i j : ℕ) → Inside v i j → (n : ℕ) × Takes (clear_at v b i j) v.far 0 n
 
+-- a log begins with that of the first of its calls, and goes on from the pixels as they stand then: so
+-- what holds of every log holds at each line of one
+abbrev pub LogsGoOn : Type 0
+LogsGoOn = (v : View) (cs more : List Call) → log v (cs ++ more) ≡ log v cs ++ play v (stands v cs) more
+
 -- the whole: of every view, every list of calls and every pile
 pub record Whole : Type 0 where
   pub piles : PilesStand
+  -- what set algebra says of a thickened pile
+  pub near : NearDecides
   pub logs : (v : View) (cs : List Call) → Held v cs
+  pub prefixes : LogsGoOn
   pub settles : Settles

@@ -4,8 +4,7 @@ use Rattle.solid.specs.Body.{Body}
 use Rattle.march.specs.declared.pixel.Pixel.{Pixel}
 use Rattle.march.specs.declared.pixel.Pixel.TheVariants.{Marching, Hit, Miss}
 use Rattle.march.specs.declared.view.View.{View}
-use Rattle.march.specs.declared.rays.Ray.{Ray}
-use Rattle.march.specs.View.{along, point, has as in_view}
+use Rattle.march.specs.View.{point, has as in_view}
 use Rattle.march.specs.March.{fresh, marches, settled}
 use Rattle.words.specs.Words.{four, image_word, number_word, hit_word, miss_word}
 use Rattle.plate_log.specs.declared.fault.PlateFault.{PlateFault}
@@ -48,10 +47,6 @@ clear_at v b i j t = b.clear (point v i j t)
 
 abbrev pub along_ray : View → Body → (k t : ℕ) → ℕ
 along_ray v b k t = clear_at v b (k % v.width) (k / v.width) t
-
--- and along a given ray
-abbrev pub clear_along : Body → Ray → (t : ℕ) → ℕ
-clear_along b r t = b.clear (along r.start t r.toward)
 
 -- does the body answer in the whole working range?
 abbrev pub deep : Body → Bool

@@ -1,5 +1,5 @@
 -- Opening a plate: over its records, by the numbers of a view.
-use Rattle.std.specs.Prelude.{◌*◌, cond, List, ◌++◌, length, drop, replicate, pos, Ok, Err, Result, nat_lt}
+use Rattle.std.specs.Prelude.{◌*◌, cond, List, ◌++◌, length, drop, replicate, Ok, Err, Result, nat_lt}
 use Rattle.march.specs.declared.pixel.Pixel.{Pixel}
 use Rattle.march.specs.declared.view.ViewFault.{ViewFault}
 use Rattle.march.specs.declared.view.ViewNumbers.{ViewNumbers}
@@ -7,18 +7,6 @@ use Rattle.march.specs.Checks.{PlainView, view_answer}
 use Rattle.march.specs.March.{fresh}
 use Rattle.plate_log.specs.declared.fault.PlateFault.{PlateFault}
 use Rattle.plate_log.specs.declared.fault.PlateFault.TheVariants.{View, TooFewRecords}
-
--- the view of a plate that is not opened: no pixels, no depth
-abbrev pub blank : PlainView
-blank = record {
-  origin = record { x = pos 0; y = pos 0; z = pos 0 };
-  ray = (pos 0, pos 0, pos 1);
-  across = (pos 1, pos 0, pos 0);
-  down = (pos 0, pos 1, pos 0);
-  width = 0;
-  height = 0;
-  far = 0;
-}
 
 -- what opening answers, and the view and the records that it leaves, by the view's numbers as they are checked, and the view and the
 -- records before: the numbers' fault, or too few records, and then all is as it was; else one new record a pixel, the rest as they were

@@ -1,10 +1,14 @@
 //! Why a plate refuses a call.
-ghost use Rattle.std.specs.Prelude.{◌≡◌};
+ghost use Rattle.std.specs.Prelude.{◌≡◌, Some};
+ghost use Rattle.refusal.specs.Texts.{refusal_text};
 ghost use Rattle.plate_log.specs.Told.{plate_told};
-ghost use Rattle.plate_log.specs.declared.fault.PlateFault.TheVariants.{View};
+ghost use Rattle.plate_log.specs.declared.fault.PlateFault.TheVariants.{View, NoPixel, Shallow};
 
-use march::view::ViewFault;
+use march::rays::StepFault;
+use march::view::{PixelFault, ViewFault};
+use refusal::told::Told;
 use refusal::{Refusal, Rule};
+use std::fmt;
 
 /// Why a plate refuses a call.
 #[derive(Clone, Copy, PartialEq, Eq, Debug)]
@@ -45,10 +49,34 @@ impl Refusal for PlateFault {
     }
 }
 
+impl fmt::Display for PlateFault {
+    ghost output = { λ fault. Some (refusal_text (plate_told fault)) };
+
+    fn fmt<W: fmt::Write>(&self, f: &mut fmt::Formatter<W>) -> fmt::Result {
+        Told::of(self).fmt(f)
+    }
+}
+
 impl From<ViewFault> for PlateFault {
     ghost from_gives = { λ f r. r ≡ View f };
 
     fn from(fault: ViewFault) -> PlateFault {
         PlateFault::View(fault)
+    }
+}
+
+impl From<PixelFault> for PlateFault {
+    ghost from_gives = { λ _ r. r ≡ NoPixel };
+
+    fn from(_fault: PixelFault) -> PlateFault {
+        PlateFault::NoPixel
+    }
+}
+
+impl From<StepFault> for PlateFault {
+    ghost from_gives = { λ _ r. r ≡ Shallow };
+
+    fn from(_fault: StepFault) -> PlateFault {
+        PlateFault::Shallow
     }
 }

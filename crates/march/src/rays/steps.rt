@@ -1,9 +1,9 @@
 //! The steps of a ray.
 ghost use Rattle.std.specs.Prelude.{◌≡◌, ◌≤◌};
-ghost use Rattle.march.specs.View.{along, on_line};
+ghost use Rattle.march.specs.View.{along, clear_along};
 ghost use Rattle.march.specs.March.{stepped};
-ghost use Rattle.march.specs.Rays.{ray_in, ray_answer, depth_of, plain_ray, plain_stepped, after, step_of};
-ghost use Rattle.march.specs.Rays.{step_in, step_answer, settle_in, settle_answer, state, end, Contact, ContactIn, pixel_of, resumed, resumed_in};
+ghost use Rattle.march.specs.Rays.{ray_in, ray_answer, depth_of, plain_ray, plain_stepped, step_of};
+ghost use Rattle.march.specs.Rays.{step_in, step_answer, settle_in, settle_answer, state, end, Contact, ContactIn};
 
 use super::{Marching, Outcome, Ray, RayFault, Settled, StepFault, Stepped};
 use crate::deep::Deep;
@@ -13,22 +13,45 @@ use crate::view::{View, ViewNumbers};
 use lattice::Point;
 use solid::Solid;
 
-impl Ray {
-    /// The point at t; none past far.
-    pub fn point(&self, t: u32) -> Option<Point>
-        ensures { result ≡ on_line self.now t }
-    {
-        if t > self.far {
-            return None;
-        }
-        Some(self.at(t))
+/// What a probe at t, answered by that clearance, leaves of a march with so many probes before it.
+fn probed(far: u32, t: u32, probes: u32, clearance: u32) -> Pixel
+    requires { (t ≤ far) × (far ≤ 4095) × (probes ≤ t) }
+    ensures { result ≡ stepped far t probes clearance }
+{
+    let probes = probes + 1;
+    if clearance == 0 {
+        return Pixel::Hit { depth: t, probes };
     }
+    if clearance > far - t {
+        return Pixel::Miss { probes };
+    }
+    Pixel::Marching {
+        t: t + clearance,
+        probes,
+    }
+}
 
+impl Ray {
+    /// The point at t.
     fn at(&self, t: u32) -> Point
         requires { t ≤ self.now.far }
         ensures { result ≡ along self.now.start t self.now.toward }
     {
         moved(self.start, t, self.toward)
+    }
+
+    /// Asks at t: what that leaves of a march with so many probes before it.
+    pub(crate) fn probe<S: Solid>(&self, t: u32, probes: u32, solid: &Deep<'_, S>) -> Pixel
+        requires { (t ≤ self.now.far) × (probes ≤ t) }
+        ensures { result ≡ stepped self.now.far t probes (clear_along (S.Solid.body solid.now.solid.now) self.now t) }
+    {
+        // Every point of a ray lies in the working range, where the solid answers. One step past the
+        // end is a miss already, so no larger clearance is asked for.
+        let clearance = solid
+            .solid
+            .clearance_up_to(self.at(t), self.far - t + 1)
+            .unwrap();
+        probed(self.far, t, probes, clearance)
     }
 }
 
@@ -38,23 +61,12 @@ impl Marching {
         ensures { ray_in result ≡ ray_answer numbers i j }
     {
         let view = View::new(numbers)?;
-        let ray = view.ray_of(i, j).ok_or(RayFault::NoPixel)?;
+        let ray = view.ray_of(i, j)?;
         Ok(Marching {
             ray,
             t: 0,
             probes: 0,
         })
-    }
-
-    /// A ray that has come to t, with so many probes; none where t is past its end, or below the
-    /// probes, of which each takes it on by 1 or more.
-    pub fn resume(ray: Ray, t: u32, probes: u32) -> Option<Marching>
-        ensures { resumed_in result ≡ resumed ray t probes }
-    {
-        if t > ray.far || probes > t {
-            return None;
-        }
-        Some(Marching { ray, t, probes })
     }
 
     /// The point at which it asks next.
@@ -64,38 +76,25 @@ impl Marching {
         self.ray.at(self.t)
     }
 
-    /// The ray once it has asked, and was answered c.
-    fn answered(self, c: u32) -> Stepped
-        ensures { plain_stepped result ≡ after (plain_ray self) (stepped self.ray.far self.t self.probes c) }
+    /// One step over a solid that answers on all of the working range.
+    fn advance<S: Solid>(self, solid: &Deep<'_, S>) -> Stepped
+        ensures { plain_stepped result ≡ step_of (S.Solid.body solid.now.solid.now) (plain_ray self) }
     {
-        let probes = self.probes + 1;
-        if c == 0 {
-            return Stepped::Done(Settled {
-                outcome: Outcome::Hit { depth: self.t },
+        match self.ray.probe(self.t, self.probes, solid) {
+            Pixel::Marching { t, probes } => Stepped::On(Marching {
+                ray: self.ray,
+                t,
                 probes,
-            });
-        }
-        if c > self.ray.far - self.t {
-            return Stepped::Done(Settled {
+            }),
+            Pixel::Hit { depth, probes } => Stepped::Done(Settled {
+                outcome: Outcome::Hit { depth },
+                probes,
+            }),
+            Pixel::Miss { probes } => Stepped::Done(Settled {
                 outcome: Outcome::Miss,
                 probes,
-            });
+            }),
         }
-        Stepped::On(Marching {
-            ray: self.ray,
-            t: self.t + c,
-            probes,
-        })
-    }
-
-    /// One step over a solid that answers on all of the working range, which is never refused.
-    pub fn advance<S: Solid>(self, solid: &Deep<'_, S>) -> Stepped
-        ensures step { plain_stepped result ≡ step_of (S.Solid.body solid.now.solid.now) (plain_ray self) }
-        ensures pixel { pixel_of result ≡ stepped self.ray.far self.t self.probes ((S.Solid.body solid.now.solid.now).clear (along self.ray.start self.t self.ray.toward)) }
-    {
-        // Every point of a ray lies in the working range, where the solid answers.
-        let clearance = solid.solid.clearance(self.tip()).unwrap();
-        self.answered(clearance)
     }
 
     /// One step: it asks the solid at its tip, and then it has settled or marches on. A solid of too
@@ -104,8 +103,8 @@ impl Marching {
         ensures { step_in result ≡ step_answer (S.Solid.body solid.now) self }
     {
         match Deep::of(solid) {
-            Some(deep) => Ok(self.advance(&deep)),
-            None => Err((StepFault::Shallow, self)),
+            Ok(deep) => Ok(self.advance(&deep)),
+            Err(fault) => Err((fault, self)),
         }
     }
 
@@ -129,8 +128,8 @@ impl Marching {
         ensures law { ContactIn (S.Solid.body solid.now) self result }
     {
         match Deep::of(solid) {
-            Some(deep) => Ok(self.run(&deep)),
-            None => Err((StepFault::Shallow, self)),
+            Ok(deep) => Ok(self.run(&deep)),
+            Err(fault) => Err((fault, self)),
         }
     }
 }
@@ -158,28 +157,5 @@ impl Settled {
         ensures { result ≡ self.now.probes }
     {
         self.probes
-    }
-}
-
-/// A ray that a step has left, as a pixel's state.
-impl From<Stepped> for Pixel {
-    ghost from_gives = { λ s p. p ≡ pixel_of s };
-
-    fn from(stepped: Stepped) -> Pixel {
-        match stepped {
-            Stepped::On(Marching { t, probes, .. }) => Pixel::Marching { t, probes },
-            Stepped::Done(
-                Settled {
-                    outcome: Outcome::Hit { depth },
-                    probes,
-                },
-            ) => Pixel::Hit { depth, probes },
-            Stepped::Done(
-                Settled {
-                    outcome: Outcome::Miss,
-                    probes,
-                },
-            ) => Pixel::Miss { probes },
-        }
     }
 }

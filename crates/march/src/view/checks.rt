@@ -1,17 +1,12 @@
-//! The numbers of a view, checked in the order of a job.
+//! The making of a view: its numbers, checked in the order of a job.
 ghost use Rattle.std.specs.Prelude.{◌≡◌};
 ghost use Rattle.march.specs.Checks.{part_answer, count_answer, row_answer, origin_answer, ways_answer, sizes_answer, view_answer};
-ghost use Rattle.march.specs.Checks.{way_in, ways_in, plain_in};
+ghost use Rattle.march.specs.Checks.{way_in, ways_in, plain_view, plain_in, blank};
 
 use super::{View, ViewFault, ViewNumbers};
-use lattice::Point;
 use lattice::direction::Direction;
+use lattice::{LEAST_COORDINATE, MOST_COORDINATE, Point};
 use refusal::range::{count_in, in_range};
-
-/// The parts of an origin.
-pub const LEAST_PART: i32 = -16384;
-
-pub const MOST_PART: i32 = 16383;
 
 /// The sides of a picture, in pixels, and how far its rays go.
 pub const MOST_SIDE: i32 = 64;
@@ -31,7 +26,7 @@ fn count(n: i32, least: i32, most: i32, place: u32) -> Result<u32, ViewFault>
 fn row(n: i32, place: u32) -> Result<Direction, ViewFault>
     ensures { way_in result ≡ row_answer n place }
 {
-    Direction::of_row(n).ok_or(ViewFault::Row { place })
+    Ok(Direction::of_row(n, place)?)
 }
 
 /// A part of the origin, which stands at a place.
@@ -39,11 +34,10 @@ fn row(n: i32, place: u32) -> Result<Direction, ViewFault>
 fn part(n: i32, place: u32) -> Result<i32, ViewFault>
     ensures { result ≡ part_answer n place }
 {
-    Ok(in_range(n, LEAST_PART, MOST_PART, place)?)
+    Ok(in_range(n, LEAST_COORDINATE, MOST_COORDINATE, place)?)
 }
 
-/// The numbers at places 1 to 3. Three crates test a point's parts so: what they share is `in_range`, and one
-/// function of the three tests would save two lines and want a first place of a type that has two after it.
+/// The numbers at places 1 to 3.
 #[tactic(auto, unfolding(crate::specs::Checks::origin_answer))]
 fn origin(n: ViewNumbers) -> Result<Point, ViewFault>
     ensures { result ≡ origin_answer n }
@@ -93,5 +87,20 @@ impl View {
             height,
             far,
         })
+    }
+
+    /// The view of no pixels, which no numbers give: its width, height and far are 0.
+    pub fn blank() -> View
+        ensures { plain_view result ≡ blank }
+    {
+        View {
+            origin: Point { x: 0, y: 0, z: 0 },
+            ray: Direction { x: 0, y: 0, z: 1 },
+            across: Direction { x: 1, y: 0, z: 0 },
+            down: Direction { x: 0, y: 1, z: 0 },
+            width: 0,
+            height: 0,
+            far: 0,
+        }
     }
 }

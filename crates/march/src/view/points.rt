@@ -1,15 +1,34 @@
-//! The pixels of a view, their rays, and the points of those.
+//! The pixels of a view, and their rays.
 ghost use Rattle.std.specs.Prelude.{◌≡◌, ◌*◌, ◌<◌};
-ghost use Rattle.march.specs.View.{start, line_in, line_answer, place_answer, point_answer, has};
+ghost use Rattle.march.specs.View.{start, line_in, line_answer, place_answer, has};
 
-use super::View;
+use super::{PixelFault, View};
 use crate::moved;
 use crate::rays::Ray;
 use lattice::Point;
 
-// A pixel is named by two numbers, here and in the calls of rays and plates: a type for the pair would ask
-// of each caller to make one.
 impl View {
+    /// How many pixels a row has.
+    pub fn width(&self) -> u32
+        ensures { result ≡ self.now.width }
+    {
+        self.width
+    }
+
+    /// How many rows of pixels it has.
+    pub fn height(&self) -> u32
+        ensures { result ≡ self.now.height }
+    {
+        self.height
+    }
+
+    /// How far its rays go.
+    pub fn far(&self) -> u32
+        ensures { result ≡ self.now.far }
+    {
+        self.far
+    }
+
     /// How many pixels the view has.
     pub fn pixels(&self) -> usize
         ensures { result ≡ self.now.width * self.now.height }
@@ -24,14 +43,14 @@ impl View {
         i < self.width && j < self.height
     }
 
-    /// The place of pixel (i, j) among the pixels, row by row; none where the view has no such pixel.
-    pub fn place_of(&self, i: u32, j: u32) -> Option<usize>
+    /// The place of pixel (i, j) among the pixels, row by row.
+    pub fn place_of(&self, i: u32, j: u32) -> Result<usize, PixelFault>
         ensures { result ≡ place_answer self.now i j }
     {
         if !self.has(i, j) {
-            return None;
+            return Err(PixelFault::NoPixel);
         }
-        Some(j as usize * self.width as usize + i as usize)
+        Ok(j as usize * self.width as usize + i as usize)
     }
 
     /// Where the ray of pixel (i, j) starts.
@@ -42,25 +61,17 @@ impl View {
         moved(moved(self.origin, i, self.across), j, self.down)
     }
 
-    /// The ray of pixel (i, j); none where the view has no such pixel.
-    pub fn ray_of(&self, i: u32, j: u32) -> Option<Ray>
+    /// The ray of pixel (i, j).
+    pub fn ray_of(&self, i: u32, j: u32) -> Result<Ray, PixelFault>
         ensures { line_in result ≡ line_answer self.now i j }
     {
         if !self.has(i, j) {
-            return None;
+            return Err(PixelFault::NoPixel);
         }
-        Some(Ray {
+        Ok(Ray {
             start: self.start_of(i, j),
             toward: self.ray,
             far: self.far,
         })
-    }
-
-    /// The point at t of the ray of pixel (i, j); none where the view has no such pixel, or its rays
-    /// do not go as far.
-    pub fn point(&self, i: u32, j: u32, t: u32) -> Option<Point>
-        ensures { result ≡ point_answer self.now i j t }
-    {
-        self.ray_of(i, j)?.point(t)
     }
 }

@@ -1,6 +1,6 @@
 use Rattle.std.proofs.Common.{◌≡◌, ◌-◌, true}
+use Rattle.march.specs.View.{clear_along}
 use Rattle.march.specs.March.{sane, settled}
-use Rattle.plate_log.specs.Log.{clear_along}
 use Rattle.plate.proofs.settle.Given as goal
 
 abbrev pub invariant-loop-spent : goal.invariant-loop-spent

@@ -1,7 +1,8 @@
 use Rattle.std.proofs.Common.{◌≡◌, ◌-◌, ◌*◌, ◌≤◌, true}
+use Rattle.march.specs.View.{clear_along}
 use Rattle.march.specs.March.{sane, settled}
 use Rattle.plate_log.specs.Sweep.{all_sane}
-use Rattle.plate_log.specs.Log.{along_ray, clear_along}
+use Rattle.plate_log.specs.Log.{along_ray}
 use Rattle.plate_log.proofs.Onward.{onward, along_row}
 use Rattle.plate.proofs.sweep_all.Given as goal
 

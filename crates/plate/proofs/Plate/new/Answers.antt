@@ -1,6 +1,16 @@
-use Rattle.std.proofs.Common.{refl}
+use Rattle.std.proofs.Common.{◌≡◌, ◌*◌, take, replicate, refl, sym, ap, ◌∙◌}
+use Rattle.march.specs.Checks.{PlainView}
+use Rattle.march.specs.March.{fresh}
+use Rattle.plate_log.specs.Log.{area}
 use Rattle.plate_log.proofs.Worked.{worked}
 use Rattle.plate.proofs.Plate.new.Goals as goal
 
 pub returns : goal.returns
-returns c = record { value = (refl, refl); empty = refl; lender = refl; worked = worked }
+returns c =
+    let none : area c.blank.result ≡ 0 = ap (λ (v : PlainView). v.width * v.height) c.blank.ensures in
+    record {
+      value = (refl, c.blank.ensures);
+      empty = ap (λ n. take n c.args.records.now) none ∙ sym (ap (λ n. replicate n fresh) none);
+      lender = refl;
+      worked = worked;
+    }

@@ -1,4 +1,4 @@
-use Rattle.std.proofs.Common.{arith}
+use Rattle.std.proofs.Common.{Ok, refl, arith}
 use Rattle.std.proofs.lemmas.Grind.{common_steps}
 use Rattle.plate_log.specs.Log.{reading, state_of}
 use Rattle.plate_log.proofs.Calls.{promise, placed, read_done}
@@ -12,13 +12,13 @@ returns-in_err-place-clause-promise c =
 pub bounds-self-place : goal.bounds-self-place
 bounds-self-place c =
     let p = c.args.self.now in
-    let at = placed p.view c.args.i c.args.j c.in_ok-place.place c.place_of.result c.place_of.ensures c.in_ok-place.ensures.ok_part in
+    let at = placed p.view c.args.i c.args.j c.in_ok-place.place (Ok c.in_ok-place.place) c.in_ok-place.ensures refl in
     omega (arith, at.inside, p.room)
 
 pub returns : goal.returns
 returns c =
     let p = c.args.self.now in
     let rs = p.records.now in
-    let at = placed p.view c.args.i c.args.j c.in_ok-place.place c.place_of.result c.place_of.ensures c.in_ok-place.ensures.ok_part in
+    let at = placed p.view c.args.i c.args.j c.in_ok-place.place (Ok c.in_ok-place.place) c.in_ok-place.ensures refl in
     let l = read_done p.view rs c.args.i c.args.j c.in_ok-place.place p.room at in
     record { line = l; promise = promise p.view rs rs (reading c.args.i c.args.j) _ p.room l }

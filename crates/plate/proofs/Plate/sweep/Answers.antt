@@ -1,6 +1,5 @@
 use Rattle.std.proofs.Common.{◌≡◌, ◌++◌, drop, refl, ap, ◌∙◌, arith}
 use Rattle.std.proofs.lemmas.Grind.{common_steps}
-use Rattle.std.proofs.lemmas.Option.{MatchOption-at_some}
 use Rattle.solid.specs.Body.{Body}
 use Rattle.plate_log.specs.Log.{sweeping, done, counts_of}
 use Rattle.plate_log.proofs.Calls.{promise, sweep_done, long_swept, front_room, front_sound}
@@ -28,7 +27,7 @@ returns g c =
     let rs = p.records.now in
     let deep = c.in_ok-deep.deep in
     let b = g.S.Solid.body deep.solid.now in
-    let same : b ≡ g.S.Solid.body c.args.solid.now = ap g.S.Solid.body (MatchOption-at_some _ _ deep c.in_ok-deep.ensures.ok_part c.of.ensures) in
+    let same : b ≡ g.S.Solid.body c.args.solid.now = ap g.S.Solid.body c.in_ok-deep.ensures in
     let n = c.pixels.result in
     let ps = c.sweep_all-spent.new.pixels in
     let l = sweep_done v rs ps b c.args.budget n c.pixels.ensures c.sweep_all-spent.ensures.value c.sweep_all-spent.result c.count_marching-left.result deep.far_enough c.sweep_all-spent.ensures.spent c.count_marching-left.ensures

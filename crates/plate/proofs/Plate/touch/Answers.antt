@@ -1,7 +1,6 @@
-use Rattle.std.proofs.Common.{◌≡◌, ◌-◌, cond, length-set, get_or, set, refl, sym, ap, ◌∙◌, arith}
+use Rattle.std.proofs.Common.{◌≡◌, ◌-◌, cond, length-set, get_or, set, Ok, refl, sym, ap, ◌∙◌, arith}
 use mir.Val.{bool_byte}
 use Rattle.std.proofs.lemmas.Grind.{common_steps}
-use Rattle.std.proofs.lemmas.Option.{MatchOption-at_some}
 use Rattle.solid.specs.Body.{Body}
 use Rattle.march.specs.March.{fresh, sane, marches}
 use Rattle.plate_log.specs.Log.{area, touching, done, counts_of}
@@ -28,7 +27,7 @@ settle-spent-requires g c =
     let k = c.unwrap-place.result in
     let r = c.in_ok-ray.ray in
     let at = placed v c.args.i c.args.j k c.place_of.result c.place_of.ensures c.unwrap-place.ensures in
-    let line = ray_line v c.args.i c.args.j at.within.0 at.within.1 c.ray_of.result c.ray_of.ensures r c.in_ok-ray.ensures.ok_part in
+    let line = ray_line v c.args.i c.args.j at.within.0 at.within.1 (Ok r) c.in_ok-ray.ensures r refl in
     record { sound = ap (λ far. sane far (get_or p.records.now k fresh)) (ray_far v c.args.i c.args.j r line) ∙ sound_at v.far (area v) k p.records.now p.sound at.inside p.room }
 
 pub invariant_of-self : goal.invariant_of-self
@@ -39,7 +38,7 @@ invariant_of-self g c =
     let r = c.in_ok-ray.ray in
     let q = c.settle-spent.new.pixel in
     let at = placed v c.args.i c.args.j k c.place_of.result c.place_of.ensures c.unwrap-place.ensures in
-    let line = ray_line v c.args.i c.args.j at.within.0 at.within.1 c.ray_of.result c.ray_of.ensures r c.in_ok-ray.ensures.ok_part in
+    let line = ray_line v c.args.i c.args.j at.within.0 at.within.1 (Ok r) c.in_ok-ray.ensures r refl in
     let sound = ap (λ far. sane far q) (sym (ray_far v c.args.i c.args.j r line)) ∙ c.settle-spent.ensures.sound in
     record { room = omega (arith, length-set p.records.now k q, p.room); sound = sound_set v.far (area v) k p.records.now q p.sound at.inside sound }
 
@@ -53,11 +52,11 @@ returns g c =
     let k = c.unwrap-place.result in
     let deep = c.in_ok-deep.deep in
     let b = g.S.Solid.body deep.solid.now in
-    let same : b ≡ g.S.Solid.body c.args.solid.now = ap g.S.Solid.body (MatchOption-at_some _ _ deep c.in_ok-deep.ensures.ok_part c.of.ensures) in
+    let same : b ≡ g.S.Solid.body c.args.solid.now = ap g.S.Solid.body c.in_ok-deep.ensures in
     let r = c.in_ok-ray.ray in
     let q = c.settle-spent.new.pixel in
     let at = placed v i j k c.place_of.result c.place_of.ensures c.unwrap-place.ensures in
-    let line = ray_line v i j at.within.0 at.within.1 c.ray_of.result c.ray_of.ensures r c.in_ok-ray.ensures.ok_part in
+    let line = ray_line v i j at.within.0 at.within.1 (Ok r) c.in_ok-ray.ensures r refl in
     let is = ray_settled v b i j c.args.budget r (get_or rs k fresh) line in
     let left : c.from.result ≡ cond (marches q) 1 0 = c.from.ensures ∙ ap bool_byte c.is_marching.ensures ∙ one_where (marches q) in
     let l = touch_done v rs q i j k b c.args.budget c.settle-spent.result c.from.result p.room at deep.far_enough
