@@ -1,5 +1,5 @@
 -- The last body that stands once a node more is laid down, and those before it.
-use Rattle.std.proofs.Common.{◌≡◌, ℕ, zero, suc, ◌-◌, ◌≤◌, min, true, List, [], ◌∷◌, ℤ, nat_abs, FitsSigned, SomeIff, Option, Some, None, Ok, sym, refl, ap, ◌∙◌, subst, arith}
+use Rattle.std.proofs.Common.{◌≡◌, ℕ, zero, suc, ◌-◌, ◌≤◌, min, true, List, [], ◌∷◌, ℤ, nat_abs, FitsSigned, refl, ap, ◌∙◌, subst, arith}
 use Rattle.std.proofs.lemmas.Bool.{false≢true, leb-true}
 use Rattle.std.proofs.lemmas.Int.{fits_signed_from_abs}
 use Rattle.std.specs.Int.{w32}
@@ -7,8 +7,6 @@ use Rattle.lattice.specs.Space.{norm, In, back, Held}
 use Rattle.lattice.specs.declared.Point.{Point}
 use Rattle.lattice.proofs.Distance.{in_less}
 use Rattle.solid.specs.Body.{Body}
-use Rattle.solid.specs.Answer.{answer}
-use Rattle.solid.proofs.Asked.{answer_in}
 use Rattle.geometry.specs.Layers.{moved, shift, thick, thicken}
 use Rattle.geometry.proofs.Kept.{in_back}
 use Rattle.geometry.proofs.Piles.{shift_is, thicken_is}
@@ -16,7 +14,7 @@ use Rattle.scene.specs.declared.node.Join.{Join}
 use Rattle.scene.specs.declared.node.Join.TheVariants.{Unite, Meet}
 use Rattle.scene.specs.declared.node.Node.{Node}
 use Rattle.scene.specs.declared.node.Node.TheVariants.{Shift, Thicken}
-use Rattle.scene.specs.Standing.{joined, joined_clear, gathered, on_two, on_one, standing, some, rest, two, top, fits}
+use Rattle.scene.specs.Standing.{joined, gathered, on_two, on_one, standing, some, rest, two, top, fits}
 use Rattle.scene.specs.Laws.{standing_lawful, top_lawful}
 
 -- where something stands, a node was laid down
@@ -25,11 +23,11 @@ unfolding gathered
 some_laid ns zero h = absurd (false≢true h)
 some_laid ns (suc n) h = omega arith
 
-two_some : (s : List Body) → two s ≡ true → some s ≡ true
+pub two_some : (s : List Body) → two s ≡ true → some s ≡ true
 two_some [] h = h
 two_some (b ∷ s) h = refl
 
-two_top : (f : Body → Body → Body) (s : List Body) → two s ≡ true → top (on_two f s) ≡ f (top (rest s)) (top s)
+pub two_top : (f : Body → Body → Body) (s : List Body) → two s ≡ true → top (on_two f s) ≡ f (top (rest s)) (top s)
 two_top f [] h = absurd (false≢true h)
 two_top f (b ∷ []) h = absurd (false≢true h)
 two_top f (b ∷ (a ∷ s)) h = refl
@@ -47,28 +45,17 @@ one_rest : (f : Body → Body) (s : List Body) → rest (on_one f s) ≡ rest s
 one_rest f [] = refl
 one_rest f (a ∷ s) = refl
 
--- A leaf that answers at p.
-pub leaf_asked : (b : Body) (s t : List Body) (p : Point) (c : ℕ) → t ≡ b ∷ s → Ok c ≡ answer b p → In (top t).reach p → c ≡ (top t).clear p
-leaf_asked b s t p c made told i =
-    let e : Ok c ≡ Ok (b.clear p) = told ∙ answer_in b p (subst (λ u. In (top u).reach p) made i) in
-    let f : c ≡ b.clear p = cc in
-    f ∙ sym (ap (λ u. (top u).clear p) made)
-
 -- what two bodies become, by each way of joining them
 joined_reach : (j : Join) (a b : Body) → (joined j a b).reach ≡ min a.reach b.reach
 joined_reach Unite a b = refl
 joined_reach Meet a b = refl
-
-joined_at : (j : Join) (a b : Body) (p : Point) → (joined j a b).clear p ≡ joined_clear j (a.clear p) (b.clear p)
-joined_at Unite a b p = refl
-joined_at Meet a b p = refl
 
 -- What a node that takes bodies asks of them at p. Before it, s stood, and with it t does.
 pub record TakesTwo (j : Join) (s t : List Body) (p : Point) : Type 0 where
   pub stands : some s ≡ true
   pub right : In (top s).reach p
   pub left : In (top (rest s)).reach p
-  pub clear : (top t).clear p ≡ joined_clear j ((top (rest s)).clear p) ((top s).clear p)
+  pub clear : (top t).clear p ≡ (joined j (top (rest s)) (top s)).clear p
   pub before : rest t ≡ rest (rest s)
 
 pub takes_two : (j : Join) (s t : List Body) → t ≡ on_two (joined j) s → two s ≡ true → (p : Point) → In (top t).reach p → TakesTwo j s t p
@@ -76,7 +63,7 @@ takes_two j s t made fit p i = record {
   stands = two_some s fit;
   right = in_less (top t).reach (top s).reach p (omega (arith, reach)) i;
   left = in_less (top t).reach (top (rest s)).reach p (omega (arith, reach)) i;
-  clear = ap (λ (b : Body). b.clear p) is ∙ joined_at j (top (rest s)) (top s) p;
+  clear = ap (λ (b : Body). b.clear p) is;
   before = ap rest made ∙ two_rest (joined j) s;
 }
   where
@@ -95,7 +82,7 @@ pub record Shifts (v : Point) (s t : List Body) (p : Point) : Type 0 where
   pub clear : (top t).clear p ≡ (top s).clear (back v p)
   pub before : rest t ≡ rest s
 
-shift_fit : (v : Point) (s : List Body) → fits (Shift v) s ≡ true → (some s ≡ true) × (norm v ≤ (top s).reach)
+pub shift_fit : (v : Point) (s : List Body) → fits (Shift v) s ≡ true → (some s ≡ true) × (norm v ≤ (top s).reach)
 shift_fit v [] h = absurd (false≢true h)
 shift_fit v (a ∷ s) h = (refl, leb-true _ _ h)
 
@@ -105,11 +92,6 @@ held q r l i = (part q.x i.0, part q.y i.1, part q.z i.2)
   where
     part : (z : ℤ) → nat_abs z ≤ r → FitsSigned w32 z
     part z m = fits_signed_from_abs w32 z (omega arith)
-
--- so that there is a point from which the offset leads
-pub found : (r : Option Point) (P : Type 0) (q : Point) → SomeIff r P q → P → r ≡ Some q
-found None P q n h = absurd (n h)
-found (Some x) P q e h = ap Some e.1
 
 pub shifts : (v : Point) (s t : List Body) → (top s).reach ≤ 1048576 → t ≡ on_one (shift v) s → fits (Shift v) s ≡ true → (p : Point) → In (top t).reach p → Shifts v s t p
 shifts v s t far made fit p i = record {
@@ -137,7 +119,7 @@ pub record Thickens (h : ℕ) (s t : List Body) (p : Point) : Type 0 where
   pub clear : (top t).clear p ≡ (top s).clear p - h
   pub before : rest t ≡ rest s
 
-thicken_fit : (h : ℕ) (s : List Body) → fits (Thicken h) s ≡ true → (some s ≡ true) × ((top s).exact ≡ true)
+pub thicken_fit : (h : ℕ) (s : List Body) → fits (Thicken h) s ≡ true → (some s ≡ true) × ((top s).exact ≡ true)
 thicken_fit h [] e = absurd (false≢true e)
 thicken_fit h (a ∷ s) e = (refl, e)
 

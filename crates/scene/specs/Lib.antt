@@ -7,3 +7,5 @@ pub mod States
 pub mod Scenes
 pub mod ExactTold
 pub mod Exacts
+pub mod Bounds
+pub mod Parts

@@ -1,6 +1,6 @@
 -- What stands as the nodes of a scene are laid down one by one. A node takes the last bodies that stand, as many as it wants, and
 -- what is made of them stands in their place. The last that stands comes first in these lists.
-use Rattle.std.specs.Prelude.{ℕ, zero, suc, min, max, Bool, true, false, ◌&&◌, List, [], ◌∷◌, pos, nat_le, slice_index_or}
+use Rattle.std.specs.Prelude.{◌≡◌, ℕ, zero, suc, ◌+◌, ◌≤◌, min, Bool, true, false, ◌&&◌, List, [], ◌∷◌, pos, nat_le, slice_index_or}
 use Rattle.lattice.specs.Space.{norm}
 use Rattle.lattice.specs.declared.Point.{Point}
 use Rattle.solid.specs.Body.{Body}
@@ -8,9 +8,16 @@ use Rattle.geometry.specs.Leaves.{ball, block}
 use Rattle.geometry.specs.Layers.{unite, meet, shift, thicken}
 use Rattle.scene.specs.declared.node.Join.{Join}
 use Rattle.scene.specs.declared.node.Join.TheVariants.{Unite, Meet}
+use Rattle.scene.specs.declared.node.Leaf.{Leaf}
+use Rattle.scene.specs.declared.node.Leaf.TheVariants.{Ball, Block}
 use Rattle.scene.specs.declared.node.Node.{Node}
-use Rattle.scene.specs.declared.node.Node.TheVariants.{Joined, Ball, Block, Shift, Thicken}
+use Rattle.scene.specs.declared.node.Node.TheVariants.{Joined, Leaf as leaf, Shift, Thicken}
 use Rattle.scene.specs.declared.node.Summary.{Summary}
+
+-- what a leaf means
+abbrev pub leaf_body : Leaf → Body
+leaf_body (Ball b) = ball b.centre b.radius
+leaf_body (Block b) = block b.lo b.hi
 
 -- what two bodies become
 abbrev pub joined : Join → Body → Body → Body
@@ -31,8 +38,7 @@ on_one f (a ∷ s) = f a ∷ s
 -- what stands with one node more
 abbrev pub step : Node → List Body → List Body
 step (Joined j) s = on_two (joined j) s
-step (Ball b) s = ball b.centre b.radius ∷ s
-step (Block b) s = block b.lo b.hi ∷ s
+step (leaf l) s = leaf_body l ∷ s
 step (Shift v) s = on_one (shift v) s
 step (Thicken h) s = on_one (thicken h) s
 
@@ -67,12 +73,16 @@ top (a ∷ s) = a
 -- does a node find what it takes? A shift must not pass the reach, and what is thickened must be exact.
 abbrev pub fits : Node → List Body → Bool
 fits (Joined j) s = two s
-fits (Ball b) s = true
-fits (Block b) s = true
+fits (leaf l) s = true
 fits (Shift v) [] = false
 fits (Shift v) (a ∷ s) = nat_le (norm v) a.reach
 fits (Thicken h) [] = false
 fits (Thicken h) (a ∷ s) = a.exact
+
+-- what stood before node k and all that it takes is what stands after the first `start` nodes
+pub record IsStart (ns : List Node) (k start : ℕ) : Type 0 where
+  pub earlier : start ≤ k
+  pub before : standing ns start ≡ rest (standing ns (k + 1))
 
 -- is there a last one, and is it exact?
 abbrev pub last_exact : List Body → Bool
@@ -83,11 +93,7 @@ last_exact (a ∷ s) = a.exact
 abbrev pub summed : Body → Summary
 summed b = record { reach = b.reach; exact = b.exact }
 
--- what two bodies become has its clearance and its summary by theirs
-abbrev pub joined_clear : Join → ℕ → ℕ → ℕ
-joined_clear Unite m n = min m n
-joined_clear Meet m n = max m n
-
+-- what two bodies become has its summary by theirs
 abbrev pub joined_summary : Join → Summary → Summary → Summary
 joined_summary Unite a b = record { reach = min a.reach b.reach; exact = a.exact && b.exact }
 joined_summary Meet a b = record { reach = min a.reach b.reach; exact = false }

@@ -7,11 +7,13 @@ ghost use Rattle.scene.specs.Scenes.{scene_body, scene_lawful, filled};
 
 use super::Scene;
 use super::draft::{Draft, DraftFault};
-use super::node::{Node, Summary};
+use super::node::{Leaf, Node, Summary};
+use super::parts::Parts;
 use super::table::Table;
 use lattice::Point;
+use leaves::LeafPoint;
 use leaves::ball::Ball;
-use solid::{QuestionFault, Solid, check_asked};
+use solid::{MOST_CLEARANCE, QuestionFault, Solid, check_asked};
 
 impl Scene {
     /// The point at the origin, a ball of radius 0.
@@ -20,25 +22,24 @@ impl Scene {
     {
         let point = Ball::new(Point { x: 0, y: 0, z: 0 }, 0).unwrap();
         let mut table = Table::new();
-        table.push(Node::Ball(point));
+        table.push(Node::Leaf(Leaf::Ball(point)));
         Scene {
             table,
+            parts: Parts::of(&table),
             summary: Summary::of(&point),
         }
     }
 
     /// Becomes the scene of a draft in which one node alone stands. From another it is refused with
     /// 12 and stays what it was.
-    // No `TryFrom`: it is a scene of the caller's that is filled or, refused, stays, which the clauses say.
     pub fn fill(&mut self, draft: &Draft) -> Result<(), DraftFault>
         ensures value { (result, scene_body self.new) ≡ filled (state draft.now).1 (scene_body self.old) }
         ensures same { OnErr result (self.new ≡ self.old) }
     {
         let summary = draft.only()?;
-        *self = Scene {
-            table: draft.table,
-            summary,
-        };
+        self.table = draft.table;
+        self.parts = Parts::of(&draft.table);
+        self.summary = summary;
         Ok(())
     }
 
@@ -60,8 +61,11 @@ impl Solid for Scene {
     }
 
     fn clearance(&self, p: Point) -> Result<u32, QuestionFault> {
+        self.clearance_up_to(p, MOST_CLEARANCE)
+    }
+
+    fn clearance_up_to(&self, p: Point, most: u32) -> Result<u32, QuestionFault> {
         check_asked(self.reach(), p)?;
-        let (clear, _) = self.table.ask(self.table.count(), p);
-        Ok(clear)
+        Ok(self.parts.ask(&self.table, LeafPoint { at: p }, most))
     }
 }

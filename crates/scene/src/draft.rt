@@ -1,5 +1,6 @@
 //! A scene that is being built.
-ghost use Rattle.std.specs.Prelude.{◌≡◌, ◌≤◌, map};
+ghost use Rattle.std.specs.Prelude.{◌≡◌, ◌≤◌, map, Some};
+ghost use Rattle.refusal.specs.Texts.{refusal_text};
 ghost use Rattle.leaves.specs.Told.{leaf_told};
 ghost use Rattle.layers.specs.Told.{layer_told};
 ghost use Rattle.scene.specs.Standing.{standing, summed, stacked};
@@ -11,7 +12,9 @@ use super::stack::Stack;
 use super::table::{MOST_NODES, Table};
 use layers::LayerFault;
 use leaves::fault::LeafFault;
+use refusal::told::Told;
 use refusal::{Refusal, Rule};
+use std::fmt;
 
 mod laying;
 
@@ -61,6 +64,14 @@ impl Refusal for DraftFault {
             DraftFault::Layer(fault) => fault.place(),
             _ => 0,
         }
+    }
+}
+
+impl fmt::Display for DraftFault {
+    ghost output = { λ fault. Some (refusal_text (draft_told fault)) };
+
+    fn fmt<W: fmt::Write>(&self, f: &mut fmt::Formatter<W>) -> fmt::Result {
+        Told::of(self).fmt(f)
     }
 }
 

@@ -1,10 +1,13 @@
 //! A scene that is exact, so that it can be thickened.
-ghost use Rattle.std.specs.Prelude.{◌≡◌, true};
+ghost use Rattle.std.specs.Prelude.{◌≡◌, true, Some};
+ghost use Rattle.refusal.specs.Texts.{refusal_text};
 ghost use Rattle.scene.specs.Standing.{standing, top};
 ghost use Rattle.scene.specs.ExactTold.{exact_told};
 
 use super::Scene;
+use refusal::told::Told;
 use refusal::{Refusal, Rule};
+use std::fmt;
 
 pub mod filling;
 
@@ -33,5 +36,13 @@ impl Refusal for ExactFault {
 
     fn place(&self) -> u32 {
         0
+    }
+}
+
+impl fmt::Display for ExactFault {
+    ghost output = { λ fault. Some (refusal_text (exact_told fault)) };
+
+    fn fmt<W: fmt::Write>(&self, f: &mut fmt::Formatter<W>) -> fmt::Result {
+        Told::of(self).fmt(f)
     }
 }

@@ -1,16 +1,20 @@
 //! A scene: a tree of solids, laid down node by node, which is a solid itself.
 #![tactic(auto)]
 
-ghost use Rattle.std.specs.Prelude.{◌≡◌, true};
+ghost use Rattle.std.specs.Prelude.{◌≡◌, ◌≤◌, true};
 ghost use Rattle.scene.specs.Standing.{standing, some, top};
+ghost use Rattle.scene.specs.Parts.{AreParts, AreBounds};
 
 use node::Summary;
+use parts::Parts;
 use table::Table;
 
 pub mod answers;
+mod bound;
 pub mod draft;
 pub mod exact;
 mod node;
+mod parts;
 mod stack;
 mod table;
 
@@ -19,8 +23,11 @@ mod table;
 #[derive(Clone, Copy)]
 pub struct Scene {
     table: Table,
+    parts: Parts,
     summary: Summary,
     ghost stands: { some (standing table.nodes.items table.nodes.height) ≡ true },
     ghost far: { summary.reach ≡ (top (standing table.nodes.items table.nodes.height)).reach },
     ghost sure: { summary.exact ≡ (top (standing table.nodes.items table.nodes.height)).exact },
+    ghost divided: { AreParts table.nodes.items table.nodes.height parts.row.items parts.row.height },
+    ghost bounded: { AreBounds table.nodes.items parts.row.items parts.row.height parts.bounds },
 }

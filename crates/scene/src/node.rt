@@ -1,8 +1,10 @@
 //! The nodes of a scene.
-ghost use Rattle.std.specs.Prelude.{◌≡◌};
-ghost use Rattle.scene.specs.Standing.{summed, joined_clear, joined_summary};
+ghost use Rattle.std.specs.Prelude.{◌≡◌, min};
+ghost use Rattle.scene.specs.Standing.{summed, joined_summary};
 
+use super::bound::Bound;
 use lattice::Point;
+use leaves::LeafPoint;
 use leaves::axis_box::AxisBox;
 use leaves::ball::Ball;
 use solid::Exact;
@@ -14,12 +16,18 @@ pub enum Join {
     Meet,
 }
 
+/// A node that takes no others.
+#[derive(Clone, Copy)]
+pub enum Leaf {
+    Ball(Ball),
+    Block(AxisBox),
+}
+
 /// A node of a scene. Those that take others take the last ones that stand.
 #[derive(Clone, Copy)]
 pub enum Node {
     Joined(Join),
-    Ball(Ball),
-    Block(AxisBox),
+    Leaf(Leaf),
     Shift(Point),
     Thicken(u32),
 }
@@ -44,17 +52,33 @@ impl Summary {
     }
 }
 
-impl Join {
-    /// The clearance of what the two become, by theirs.
-    pub(crate) fn clearance(self, left: u32, right: u32) -> u32
-        ensures { result ≡ joined_clear self left right }
+impl Leaf {
+    ghost use Rattle.scene.specs.Standing.{leaf_body};
+    ghost use Rattle.scene.specs.Bounds.{IsBound};
+
+    /// The clearance, or `most` where that is smaller.
+    #[inline(always)]
+    pub(crate) fn clear_up_to(&self, p: LeafPoint, most: u32) -> u32
+        ensures { result ≡ min most ((leaf_body self.now).clear p.at) }
     {
         match self {
-            Join::Unite => left.min(right),
-            Join::Meet => left.max(right),
+            Leaf::Ball(ball) => ball.clear_up_to(p, most),
+            Leaf::Block(block) => block.clear_up_to(p, most),
         }
     }
 
+    /// A box about it.
+    pub(crate) fn bound(&self) -> Bound
+        ensures { IsBound result (leaf_body self.now) }
+    {
+        match self {
+            Leaf::Ball(ball) => Bound::about_ball(ball),
+            Leaf::Block(block) => Bound::about_box(block),
+        }
+    }
+}
+
+impl Join {
     /// The summary of what the two become, by theirs. What two have in common is not exact.
     pub(crate) fn summary(self, left: Summary, right: Summary) -> Summary
         ensures { result ≡ joined_summary self left right }

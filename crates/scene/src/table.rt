@@ -1,14 +1,17 @@
 //! The table of a scene's nodes.
-ghost use Rattle.std.specs.Prelude.{◌≡◌, ℕ, ◌+◌, ◌-◌, ◌<◌, ◌≤◌, true, slice_index_or};
+ghost use Rattle.std.specs.Prelude.{◌≡◌, ℕ, ◌+◌, ◌-◌, ◌<◌, ◌≤◌, min, true, slice_index_or, IfSome};
 ghost use Rattle.lattice.specs.Space.{In};
 ghost use Rattle.scene.specs.declared.node.Join.TheVariants.{Unite};
 ghost use Rattle.scene.specs.declared.node.Node.TheVariants.{Joined};
-ghost use Rattle.scene.specs.Standing.{standing, step, fits, some, top, rest};
+ghost use Rattle.scene.specs.Standing.{standing, step, fits, some, top, rest, IsStart};
+ghost use Rattle.scene.specs.Bounds.{IsBound};
+ghost use Rattle.scene.specs.Parts.{last_body, Unites};
 
+use super::bound::Bound;
 use super::node::{Join, Node};
 use super::stack::Stack;
 use lattice::Point;
-use solid::Solid;
+use leaves::LeafPoint;
 
 /// A scene has at most this many nodes.
 pub const MOST_NODES: usize = 256;
@@ -18,8 +21,11 @@ pub const MOST_NODES: usize = 256;
 #[derive(Clone, Copy)]
 pub struct Table {
     nodes: Stack<Node, MOST_NODES>,
+    /// For each node, how many were laid down before it and all that it takes.
+    starts: [u8; MOST_NODES],
     ghost room: { nodes.height ≤ 256 },
     ghost sound: { (k : ℕ) → k < nodes.height → fits (slice_index_or nodes.items k (Joined Unite)) (standing nodes.items k) ≡ true },
+    ghost started: { (k : ℕ) → k < nodes.height → IsStart nodes.items k (slice_index_or starts k 0) },
 }
 
 impl Table {
@@ -29,6 +35,7 @@ impl Table {
     {
         Table {
             nodes: Stack::new(Node::Joined(Join::Unite)),
+            starts: [0; MOST_NODES],
         }
     }
 
@@ -46,42 +53,112 @@ impl Table {
         ensures counted { self.new.nodes.height ≡ self.old.nodes.height + 1 }
         ensures made { standing self.new.nodes.items self.new.nodes.height ≡ step node (standing self.old.nodes.items self.old.nodes.height) }
     {
+        self.starts[self.nodes.height] = self.start_with(&node) as u8;
         self.nodes.push(node);
     }
 
-    /// The last of the first `end` nodes, which found what it takes.
-    fn last_of(&self, end: usize) -> Node
-        requires some { 1 ≤ end }
-        requires laid { end ≤ self.now.nodes.height }
-        ensures made { standing self.now.nodes.items end ≡ step result (standing self.now.nodes.items (end - 1)) }
-        ensures fit { fits result (standing self.now.nodes.items (end - 1)) ≡ true }
+    /// How many nodes come before one more and all that it takes.
+    fn start_with(&self, node: &Node) -> usize
+        requires { fits node.now (standing self.now.nodes.items self.now.nodes.height) ≡ true }
+        ensures earlier { result ≤ self.now.nodes.height }
+        ensures before { standing self.now.nodes.items result ≡ rest (step node.now (standing self.now.nodes.items self.now.nodes.height)) }
     {
-        self.nodes.items[end - 1]
+        let count = self.nodes.height;
+        match node {
+            Node::Leaf(_) => count,
+            Node::Shift(_) | Node::Thicken(_) => self.start_of(count),
+            Node::Joined(_) => self.start_of(self.start_of(count)),
+        }
     }
 
-    /// The clearance of the node that stands last once `end` nodes are laid down, and how many were
-    /// laid down before it and all that it takes.
-    pub(crate) fn ask(&self, end: usize, p: Point) -> (u32, usize)
+    /// How many of the first `end` nodes come before the last and all that it takes.
+    #[inline(always)]
+    fn start_of(&self, end: usize) -> usize
+        requires some { 1 ≤ end }
+        requires laid { end ≤ self.now.nodes.height }
+        ensures before { standing self.now.nodes.items result ≡ rest (standing self.now.nodes.items end) }
+        ensures fewer { result < end }
+    {
+        self.starts[end - 1] as usize
+    }
+
+    /// The last of the first `end` nodes, which found what it takes.
+    #[inline(always)]
+    fn last_of(&self, end: usize) -> &Node
+        requires some { 1 ≤ end }
+        requires laid { end ≤ self.now.nodes.height }
+        ensures made { standing self.now.nodes.items end ≡ step result.now (standing self.now.nodes.items (end - 1)) }
+        ensures fit { fits result.now (standing self.now.nodes.items (end - 1)) ≡ true }
+    {
+        &self.nodes.items[end - 1]
+    }
+
+    /// Where the left of the two ends that the last of the first `end` nodes unites; none where it
+    /// is no union.
+    pub(crate) fn united_at(&self, end: usize) -> Option<usize>
+        requires some { 1 ≤ end }
+        requires laid { end ≤ self.now.nodes.height }
+        ensures { IfSome result (Unites self.now.nodes.items end) }
+    {
+        match self.last_of(end) {
+            Node::Joined(join) => match join {
+                Join::Unite => Some(self.start_of(end - 1)),
+                Join::Meet => None,
+            },
+            _ => None,
+        }
+    }
+
+    /// A bound about the body that stands last once `end` nodes are laid down.
+    pub(crate) fn bound_of(&self, end: usize) -> Bound
+        requires some { 1 ≤ end }
+        requires laid { end ≤ self.now.nodes.height }
+        ensures { IsBound result (last_body self.now.nodes.items end) }
+    {
+        match self.last_of(end) {
+            Node::Leaf(leaf) => leaf.bound(),
+            _ => Bound::everything(),
+        }
+    }
+
+    /// As `ask`, of what is mostly a leaf.
+    #[inline(always)]
+    pub(crate) fn ask_part(&self, end: usize, p: LeafPoint, most: u32) -> u32
+        requires laid { end ≤ self.now.nodes.height }
+        requires stands { some (standing self.now.nodes.items end) ≡ true }
+        requires near { In (top (standing self.now.nodes.items end)).reach p.at }
+        ensures { result ≡ min most ((top (standing self.now.nodes.items end)).clear p.at) }
+    {
+        if let Node::Leaf(leaf) = self.last_of(end) {
+            return leaf.clear_up_to(p, most);
+        }
+        self.ask(end, p.at, most)
+    }
+
+    /// The clearance of the body that stands last once `end` nodes are laid down, or `most` where
+    /// that is smaller.
+    pub(crate) fn ask(&self, end: usize, p: Point, most: u32) -> u32
         requires laid { end ≤ self.now.nodes.height }
         requires stands { some (standing self.now.nodes.items end) ≡ true }
         requires near { In (top (standing self.now.nodes.items end)).reach p }
-        ensures value { result.0 ≡ (top (standing self.now.nodes.items end)).clear p }
-        ensures before { standing self.now.nodes.items result.1 ≡ rest (standing self.now.nodes.items end) }
-        ensures fewer { result.1 < end }
+        ensures { result ≡ min most ((top (standing self.now.nodes.items end)).clear p) }
     {
         let last = end - 1;
         match self.last_of(end) {
-            Node::Ball(ball) => (ball.clearance(p).unwrap(), last),
-            Node::Block(block) => (block.clearance(p).unwrap(), last),
+            Node::Leaf(leaf) => leaf.clear_up_to(LeafPoint { at: p }, most),
             Node::Joined(join) => {
-                let (right, middle) = self.ask(last, p);
-                let (left, start) = self.ask(middle, p);
-                (join.clearance(left, right), start)
+                let right = self.ask(last, p, most);
+                let middle = self.start_of(last);
+                match join {
+                    Join::Unite => self.ask(middle, p, right),
+                    Join::Meet if right == most => most,
+                    Join::Meet => right.max(self.ask(middle, p, most)),
+                }
             }
-            Node::Shift(by) => self.ask(last, p.checked_sub(by).unwrap()),
+            Node::Shift(by) => self.ask(last, p.wrapping_sub(*by), most),
             Node::Thicken(by) => {
-                let (clear, start) = self.ask(last, p);
-                (clear.saturating_sub(by), start)
+                let clear = self.ask(last, p, most.saturating_add(*by));
+                clear.saturating_sub(*by)
             }
         }
     }

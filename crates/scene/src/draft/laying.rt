@@ -9,7 +9,7 @@ ghost use Rattle.scene.specs.Known.{last_of, last_two, only};
 ghost use Rattle.scene.specs.States.{state, room, lay};
 
 use super::{Draft, DraftFault};
-use crate::node::{Join, Node, Summary};
+use crate::node::{Join, Leaf, Node, Summary};
 use crate::stack::Stack;
 use crate::table::{MOST_NODES, Table};
 use lattice::Point;
@@ -114,7 +114,7 @@ impl Draft {
     {
         self.check_room()?;
         let ball = Ball::new(centre, radius)?;
-        self.put(Node::Ball(ball), 0, Summary::of(&ball));
+        self.put(Node::Leaf(Leaf::Ball(ball)), 0, Summary::of(&ball));
         Ok(())
     }
 
@@ -124,7 +124,7 @@ impl Draft {
     {
         self.check_room()?;
         let block = AxisBox::new(lo, hi)?;
-        self.put(Node::Block(block), 0, Summary::of(&block));
+        self.put(Node::Leaf(Leaf::Block(block)), 0, Summary::of(&block));
         Ok(())
     }
 

@@ -22,7 +22,6 @@ impl ExactScene {
 
     /// Becomes that scene where it is exact. Another is refused with 15, and this one stays what it
     /// was.
-    // No `TryFrom`: it is a scene of the caller's that is filled or, refused, stays, which the clauses say.
     pub fn fill(&mut self, scene: &Scene) -> Result<(), ExactFault>
         ensures value { (result, exact_scene_body self.new) ≡ filled_exact (scene_body scene.now) (exact_scene_body self.old) }
         ensures same { OnErr result (self.new ≡ self.old) }
@@ -46,6 +45,10 @@ impl Solid for ExactScene {
 
     fn clearance(&self, p: Point) -> Result<u32, QuestionFault> {
         self.scene.clearance(p)
+    }
+
+    fn clearance_up_to(&self, p: Point, most: u32) -> Result<u32, QuestionFault> {
+        self.scene.clearance_up_to(p, most)
     }
 }
 

@@ -1,0 +1,6 @@
+use Rattle.std.proofs.Common.{◌≡◌, length}
+use Rattle.scene.specs.Parts.{AreBounds}
+use Rattle.scene.proofs.parts.bounds_of.Given as goal
+
+abbrev pub invariant-loop-i : goal.invariant-loop-i
+invariant-loop-i l = (length l.bounds ≡ 32) × AreBounds l.table.nodes.items l.row.items l.i l.bounds
