@@ -13,7 +13,7 @@ const LIMIT: u64 = 23_641;
 fn main(rt: HostRuntime) -> anyhow::Result<()> {
     let mut input = Vec::new(rt.alloc());
     rt.stdin().take(LIMIT).read_to_end(&mut input)?;
-    // The kit uses no heap, and a crate for these four lines would be no plainer.
+    // The kit uses no heap: what it works on is lent to it.
     let mut records = Vec::new(rt.alloc());
     records.resize(MOST_PIXELS, Pixel::Miss { probes: 0 })?;
     let mut out = Vec::new(rt.alloc());

@@ -3,6 +3,7 @@ use Rattle.std.proofs.Common.{◌≡◌, ℕ, zero, suc, ◌*◌, ◌≤◌, Boo
 use Rattle.std.proofs.lemmas.List.{take_all}
 use Rattle.std.proofs.lemmas.Bool.{ne_eqb}
 use Rattle.lattice.specs.Space.{norm}
+use Rattle.lattice.proofs.Distance.{placement_in}
 use Rattle.solid.specs.Body.{Body, Lawful}
 use Rattle.geometry.specs.Leaves.{block, surface}
 use Rattle.geometry.specs.Layers.{thicken}
@@ -10,9 +11,8 @@ use Rattle.geometry.specs.Pile.{Pile}
 use Rattle.geometry.specs.Pile.Pile.{lawful, united, met, shifted, thickened, cut}
 use Rattle.geometry.proofs.Boxes.{block_lawful}
 use Rattle.geometry.proofs.Surfaces.{surface_lawful}
-use Rattle.leaves.specs.declared.surface.Sheet.{Sheet}
 use Rattle.readers.specs.declared.job.Job.{Job}
-use Rattle.readers.specs.declared.surface.SurfaceSize.{SurfaceSize}
+use Rattle.leaves.specs.declared.surface.SurfaceSize.{SurfaceSize}
 use Rattle.readers.specs.Jobs.{job_numbers}
 use Rattle.plate_log.specs.Law.{Piled}
 use Rattle.kit.specs.Models.{guarded, stack, pile_of, grown, members}
@@ -30,21 +30,20 @@ pub model_piled : (j : Job) (s : Body) (size : SurfaceSize) (hs : List ℤ) → 
 model_piled j s size hs l x =
     let n = size.width * size.depth in
     let g = guarded_pile j.guard s l j.slight x in
-    let clip = lawful (block j.clip.lo j.clip.hi) (block_lawful j.clip.lo j.clip.hi j.clip.low j.clip.high j.clip.upright) in
+    let clip = lawful (block j.clip.lo j.clip.hi) (block_lawful j.clip.lo j.clip.hi (placement_in j.clip.lo j.clip.lo_is_placement) (placement_in j.clip.hi j.clip.hi_is_placement) j.clip.upright) in
     let near : norm j.shift ≤ 1048576 = omega (arith, j.near.0, j.near.1, j.near.2) in
     let sheet = shifted j.shift j.near near (lawful (surface size.width size.depth (take n hs)) (surface_lawful size.width size.depth (take n hs))) in
     (members (model_of (job_numbers j) s size hs), false, cut 64 (lit≤ tt) (lit≤ tt) (met clip (united sheet g.1)), λ p. refl)
 
 -- what the code piles up is the pile of the model
-pub heap_is : (j : Job) (s t : Body) (size : SurfaceSize) (hs ks : List ℤ) (made sheet : Sheet) → length hs ≡ size.width * size.depth → ◌≡◌ {A = ℕ × ℕ} (made.width, made.depth) (size.width, size.depth) → sheet ≡ made → ks ≡ hs → t ≡ guarded j.guard s
-    → stack j.clip.lo j.clip.hi j.shift (surface sheet.width sheet.depth ks) t ≡ pile_of (model_of (job_numbers j) s size hs)
-heap_is j s t size hs ks made sheet long e f k g =
+pub heap_is : (j : Job) (s t columns : Body) (size : SurfaceSize) (hs : List ℤ) → length hs ≡ size.width * size.depth → columns ≡ surface size.width size.depth hs → t ≡ guarded j.guard s
+    → stack j.clip.lo j.clip.hi j.shift columns t ≡ pile_of (model_of (job_numbers j) s size hs)
+heap_is j s t columns size hs long f g =
     let n = size.width * size.depth in
-    let b = λ (w d : ℕ) (ks : List ℤ) (t : Body). stack j.clip.lo j.clip.hi j.shift (surface w d ks) t in
-    ap (λ (x : Sheet). b x.width x.depth ks t) f
-    ∙ ap (λ (x : ℕ × ℕ). b x.0 x.1 ks t) e
-    ∙ ap (λ (x : List ℤ). b size.width size.depth x t) (k ∙ sym (take_all n hs (omega arith)))
-    ∙ ap (λ (x : Body). b size.width size.depth (take n hs) x) g
+    let b = λ (x t : Body). stack j.clip.lo j.clip.hi j.shift x t in
+    ap (λ (x : Body). b x t) f
+    ∙ ap (λ (x : List ℤ). b (surface size.width size.depth x) t) (sym (take_all n hs (omega arith)))
+    ∙ ap (λ (x : Body). b (surface size.width size.depth (take n hs)) x) g
 
 pub unguarded : (g : ℕ) (s : Body) → g ≡ 0 → s ≡ guarded g s
 unguarded zero s e = refl

@@ -8,7 +8,7 @@ use Rattle.words.specs.Cursor.{text, place, ahead, Begun}
 use Rattle.words.specs.Reading.{and_then, unless, number_at}
 use Rattle.readers.specs.declared.job.Job.{Job}
 use Rattle.readers.specs.declared.job.JobFault.{JobFault}
-use Rattle.readers.specs.declared.surface.SurfaceSize.{SurfaceSize}
+use Rattle.leaves.specs.declared.surface.SurfaceSize.{SurfaceSize}
 use Rattle.readers.specs.declared.surface.SurfaceReadFault.{SurfaceReadFault}
 use Rattle.readers.specs.Jobs.{JobNumbers, job_numbers, job_of}
 use Rattle.readers.specs.Surfaces.{in_surface, size_of, heights_at, surface_of, put_into}

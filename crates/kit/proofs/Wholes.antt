@@ -9,7 +9,7 @@ use Rattle.march.specs.Checks.{view_answer}
 use Rattle.words.specs.Words.{four}
 use Rattle.words.specs.Reading.{unless, bare_at}
 use Rattle.words.proofs.Chains.{first_ok, test_held, same_ok}
-use Rattle.readers.specs.declared.surface.SurfaceSize.{SurfaceSize}
+use Rattle.leaves.specs.declared.surface.SurfaceSize.{SurfaceSize}
 use Rattle.readers.specs.declared.job.JobFault.TheVariants.{Corners}
 use Rattle.readers.specs.Jobs.{JobNumbers, in_job, view_at, pile_at, job_of}
 use Rattle.readers.proofs.Stands.{view_stands}

@@ -4,7 +4,7 @@ use Rattle.solid.specs.Body.{Body}
 use Rattle.march.specs.declared.pixel.Pixel.{Pixel}
 use Rattle.march.specs.declared.view.ViewNumbers.{ViewNumbers}
 use Rattle.readers.specs.declared.job.Job.{Job}
-use Rattle.readers.specs.declared.surface.SurfaceSize.{SurfaceSize}
+use Rattle.leaves.specs.declared.surface.SurfaceSize.{SurfaceSize}
 use Rattle.readers.specs.Jobs.{JobNumbers, job_numbers}
 use Rattle.kit.specs.declared.fault.InputFault.{InputFault}
 use Rattle.kit.specs.declared.fault.InputFault.TheVariants.{Shallow}

@@ -1,13 +1,17 @@
 //! Why an input is refused, and why the call is.
-ghost use Rattle.std.specs.Prelude.{◌≡◌, ℕ};
+ghost use Rattle.std.specs.Prelude.{◌≡◌, ℕ, Some};
+ghost use Rattle.refusal.specs.Texts.{refusal_text};
 ghost use Rattle.kit.specs.Render.{refusal_of};
 ghost use Rattle.kit.specs.Told.{input_told, number_told, render_told};
-ghost use Rattle.kit.specs.declared.fault.InputFault.TheVariants.{Job, Scene, Surface};
+ghost use Rattle.kit.specs.declared.fault.InputFault.TheVariants.{Job, Scene, Surface, Shallow};
 
+use march::rays::StepFault;
 use readers::job::JobFault;
 use readers::surface::SurfaceReadFault;
+use refusal::told::Told;
 use refusal::{Refusal, Rule};
 use scene_reader::fault::SceneFault;
+use std::fmt;
 use words::kind::Kind;
 
 /// Why an input is refused. It has four parts, by their numbers: 1 job, 2 scene, 3 surface, 4
@@ -89,6 +93,14 @@ impl Refusal for InputFault {
     }
 }
 
+impl fmt::Display for InputFault {
+    ghost output = { λ fault. Some (refusal_text (number_told fault)) };
+
+    fn fmt<W: fmt::Write>(&self, f: &mut fmt::Formatter<W>) -> fmt::Result {
+        Told::of(self).fmt(f)
+    }
+}
+
 impl From<JobFault> for InputFault {
     ghost from_gives = { λ e r. r ≡ Job e };
 
@@ -113,6 +125,14 @@ impl From<SurfaceReadFault> for InputFault {
     }
 }
 
+impl From<StepFault> for InputFault {
+    ghost from_gives = { λ _ r. r ≡ Shallow };
+
+    fn from(_fault: StepFault) -> InputFault {
+        InputFault::Shallow
+    }
+}
+
 /// Why the call is refused, whatever the input.
 #[derive(Clone, Copy, PartialEq, Eq, Debug)]
 pub enum RenderFault {
@@ -134,5 +154,13 @@ impl Refusal for RenderFault {
 
     fn place(&self) -> u32 {
         0
+    }
+}
+
+impl fmt::Display for RenderFault {
+    ghost output = { λ fault. Some (refusal_text (render_told fault)) };
+
+    fn fmt<W: fmt::Write>(&self, f: &mut fmt::Formatter<W>) -> fmt::Result {
+        Told::of(self).fmt(f)
     }
 }

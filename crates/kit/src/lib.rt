@@ -10,10 +10,10 @@ ghost use Rattle.kit.specs.Steps.{model_in};
 
 use desk::Desk;
 use fault::{InputFault, RenderFault};
+use leaves::surface::SurfaceSize;
 use march::pixel::Pixel;
 use readers::job::Job;
 use readers::job::reads::read_job;
-use readers::surface::SurfaceSize;
 use readers::surface::reads::read_surface;
 use scene::Scene;
 use scene_reader::reads::read_scene;

@@ -7,7 +7,6 @@ use anyhow::anyhow;
 use hex::FromHexError;
 use kit::{MOST_BYTES, MOST_PIXELS, render};
 use march::pixel::Pixel;
-use refusal::told::Told;
 use std::alloc::{AllocError, Global};
 use words::writing::WORD;
 
@@ -39,8 +38,7 @@ fn is_untouched(records: &[Pixel]) -> bool {
     records.iter().all(|record| *record == UNTOUCHED)
 }
 
-/// So many records and bytes to lend, and what they hold before a call. The kit uses no heap, and a
-/// crate for these lines, which other programs have too, would be no plainer.
+/// So many records and bytes to lend, and what they hold before a call. The kit uses no heap.
 fn lent(heap: Global, records: usize, bytes: usize) -> Result<(Vec<Pixel>, Vec<u8>), AllocError> {
     let mut lent = Vec::new(heap);
     lent.resize(records, UNTOUCHED)?;
@@ -70,10 +68,7 @@ fn tell_refused(rt: &HostRuntime, records: usize, bytes: usize) -> anyhow::Resul
         Ok(length) => println!(rt; "{records} records, {bytes} bytes: {length} bytes written")?,
         Err(fault) => {
             let kept = is_untouched(&lent) && is_blank(&out, 0);
-            println!(rt;
-                "{records} records, {bytes} bytes: refused, {}; nothing written: {kept}",
-                Told::of(&fault)
-            )?
+            println!(rt; "{records} records, {bytes} bytes: {fault}; nothing written: {kept}")?
         }
     }
     Ok(())

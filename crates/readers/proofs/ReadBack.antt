@@ -3,7 +3,7 @@ use Rattle.std.proofs.Common.{◌≡◌, ℕ, ◌≤◌, Bool, true, false, cond
 use Rattle.std.specs.Option.{ok_or}
 use Rattle.std.proofs.lemmas.Int.{ints}
 use Rattle.std.proofs.lemmas.Bool.Decides.{nat_tests}
-use Rattle.lattice.specs.Space.{In}
+use Rattle.lattice.specs.Space.{In, IsPlacement}
 use Rattle.lattice.specs.Rows.{triple}
 use Rattle.lattice.specs.declared.Point.{Point}
 use Rattle.march.specs.declared.view.ViewNumbers.{ViewNumbers}
@@ -16,6 +16,9 @@ use Rattle.words.proofs.Back.{bare_back, number_in_back, row_back, point_back}
 use Rattle.readers.specs.declared.job.Job.{Job}
 use Rattle.readers.specs.Jobs.{rows_at, sizes_at, view_at, pile_at, job_of, job_numbers}
 use Rattle.readers.specs.JobsBack.{job_words, JobsReadBack}
+
+placement_in_range : (p : Point) → IsPlacement p → point_in (negsuc 16383) (pos 16383) p ≡ true
+placement_in_range p i = grind (arith, ints, nat_tests)
 
 -- a chain of checks that is passed has each link passed
 linked : {A B : Type 0} (r : Result A ViewFault) (f : A → Result B ViewFault) → is_ok (and_then r f) ≡ true → (x : A) × ((r ≡ Ok x) × (is_ok (f x) ≡ true))
@@ -114,8 +117,8 @@ module _ (j : Job) (rest : List ℕ) where
       let g : in_range (pos 0) (pos 1023) (pos j.guard) ≡ true = grind (arith, ints, nat_tests) in
       let a = number_in_back (job_words j) rest 10 (pos 0) (pos 1023) (pos j.guard) (lit< tt) refl (refl, refl) g in
       let b = point_back (job_words j) rest 11 (negsuc 16382) (pos 16383) j.shift (lit< tt) refl refl refl (refl, refl) (offset_in j.shift j.near) in
-      let c = point_back (job_words j) rest 14 (negsuc 16383) (pos 16383) j.clip.lo (lit< tt) refl refl refl (refl, refl) j.low in
-      let d = point_back (job_words j) rest 17 (negsuc 16383) (pos 16383) j.clip.hi (lit< tt) refl refl refl (refl, refl) j.high in
+      let c = point_back (job_words j) rest 14 (negsuc 16383) (pos 16383) j.clip.lo (lit< tt) refl refl refl (refl, refl) (placement_in_range j.clip.lo j.clip.lo_is_placement) in
+      let d = point_back (job_words j) rest 17 (negsuc 16383) (pos 16383) j.clip.hi (lit< tt) refl refl refl (refl, refl) (placement_in_range j.clip.hi j.clip.hi_is_placement) in
       simp (a, b, c, d)
 
   job_back : job_of bytes ≡ Ok (job_numbers j)

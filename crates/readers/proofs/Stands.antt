@@ -2,7 +2,7 @@
 use Rattle.std.proofs.Common.{◌≡◌, ℕ, ◌+◌, ◌≤◌, true, false, eqb, ltb, List, ℤ, pos, negsuc, nat_abs, is_ok, Some, Ok, subst, arith}
 use Rattle.std.proofs.lemmas.Int.{ints}
 use Rattle.std.proofs.lemmas.Bool.Decides.{nat_tests}
-use Rattle.lattice.specs.Space.{In}
+use Rattle.lattice.specs.Space.{In, IsPlacement}
 use Rattle.lattice.specs.Rows.{row_of, triple}
 use Rattle.lattice.specs.declared.Point.{Point}
 use Rattle.march.specs.declared.view.ViewNumbers.{ViewNumbers}
@@ -79,8 +79,5 @@ pile_kept bs p h =
     (slight a.0 (number_in_range bs 10 _ _ a.0 a.1.0), offset_near b.0 (point_in_range bs 11 _ _ b.0 b.1.0), point_in_range bs 14 _ _ c.0 c.1.0, point_in_range bs 17 _ _ d.0 d.1.0)
 
 -- a corner in its range is one of a box
-pub corner_in : (p : Point) → point_in (negsuc 16383) (pos 16383) p ≡ true → In 16384 p
-corner_in p h = (part p.x (grind arith), part p.y (grind arith), part p.z (grind arith))
-  where
-    part : (n : ℤ) → in_range (negsuc 16383) (pos 16383) n ≡ true → nat_abs n ≤ 16384
-    part n h = grind (arith, ints, nat_tests)
+pub corner_placed : (p : Point) → point_in (negsuc 16383) (pos 16383) p ≡ true → IsPlacement p
+corner_placed p h = grind (arith, ints, nat_tests)

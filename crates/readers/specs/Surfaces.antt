@@ -3,7 +3,7 @@ use Rattle.std.specs.Prelude.{ℕ, zero, suc, ◌+◌, ◌*◌, ◌/◌, ◌%◌
 use Rattle.std.specs.Result.{result_map_both}
 use Rattle.words.specs.declared.fault.WordFault.{WordFault}
 use Rattle.words.specs.Reading.{and_then, unless, kind_at, number_at}
-use Rattle.readers.specs.declared.surface.SurfaceSize.{SurfaceSize}
+use Rattle.leaves.specs.declared.surface.SurfaceSize.{SurfaceSize}
 use Rattle.readers.specs.declared.surface.SurfaceReadFault.{SurfaceReadFault}
 use Rattle.readers.specs.declared.surface.SurfaceReadFault.TheVariants.{Word, Size, Buffer}
 

@@ -1,15 +1,17 @@
 //! A job: the view, and the numbers of the pile.
-ghost use Rattle.std.specs.Prelude.{◌≡◌, ◌≤◌, true, pos, negsuc, is_ok};
+ghost use Rattle.std.specs.Prelude.{◌≡◌, ◌≤◌, true, is_ok, Some};
+ghost use Rattle.refusal.specs.Texts.{refusal_text};
 ghost use Rattle.lattice.specs.Space.{In};
 ghost use Rattle.march.specs.Checks.{view_answer};
-ghost use Rattle.words.specs.Reading.{point_in};
 ghost use Rattle.readers.specs.JobTold.{job_told};
 ghost use Rattle.readers.specs.declared.job.JobFault.TheVariants.{Word};
 
 use lattice::Point;
 use leaves::axis_box::AxisBox;
 use march::view::ViewNumbers;
+use refusal::told::Told;
 use refusal::{Refusal, Rule};
+use std::fmt;
 use words::fault::WordFault;
 
 pub mod reads;
@@ -22,14 +24,11 @@ pub struct Job {
     pub guard: u32,
     /// The offset of the surface.
     pub shift: Point,
-    /// The box that the pile is cut to. Its corners lie in the range of a file's coordinates, which ends
-    /// one below 16384, the most that a box allows.
+    /// The box that the pile is cut to.
     pub clip: AxisBox,
     ghost seen: { is_ok (view_answer view) ≡ true },
     ghost slight: { guard ≤ 1023 },
     ghost near: { In 16383 shift },
-    ghost low: { point_in (negsuc 16383) (pos 16383) clip.lo ≡ true },
-    ghost high: { point_in (negsuc 16383) (pos 16383) clip.hi ≡ true },
 }
 
 /// Why a job is refused.
@@ -59,6 +58,14 @@ impl Refusal for JobFault {
             JobFault::Word(fault) => fault.place(),
             JobFault::Corners => CLIP_PLACE,
         }
+    }
+}
+
+impl fmt::Display for JobFault {
+    ghost output = { λ fault. Some (refusal_text (job_told fault)) };
+
+    fn fmt<W: fmt::Write>(&self, f: &mut fmt::Formatter<W>) -> fmt::Result {
+        Told::of(self).fmt(f)
     }
 }
 

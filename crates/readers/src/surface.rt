@@ -1,31 +1,16 @@
-//! A surface, as it is read: its sizes. The heights go to the caller.
-ghost use Rattle.std.specs.Prelude.{◌≡◌, ◌*◌};
+//! A surface, as it is read. The heights go to the caller.
+ghost use Rattle.std.specs.Prelude.{◌≡◌, Some};
+ghost use Rattle.refusal.specs.Texts.{refusal_text};
 ghost use Rattle.readers.specs.SurfaceTold.{surface_told, unmade};
 ghost use Rattle.readers.specs.declared.surface.SurfaceReadFault.TheVariants.{Word};
 
 use leaves::fault::SurfaceFault;
+use refusal::told::Told;
 use refusal::{Refusal, Rule};
+use std::fmt;
 use words::fault::WordFault;
 
 pub mod reads;
-
-/// The columns of a surface: `width` of them along x, `depth` along y. They are plain numbers, so that
-/// what is read is set equal to its definition, which makes such a size. The leaves' `Sheet` holds proofs that
-/// they are in range too: the definition would answer a pair in its place, and each clause map to that.
-#[derive(Clone, Copy, PartialEq, Eq, Debug)]
-pub struct SurfaceSize {
-    pub width: u32,
-    pub depth: u32,
-}
-
-impl SurfaceSize {
-    /// How many columns the surface has.
-    pub fn columns(self) -> usize
-        ensures { result ≡ self.width * self.depth }
-    {
-        self.width as usize * self.depth as usize
-    }
-}
 
 /// Why a surface is refused.
 #[derive(Clone, Copy, PartialEq, Eq, Debug)]
@@ -54,6 +39,14 @@ impl Refusal for SurfaceReadFault {
             SurfaceReadFault::Word(fault) => fault.place(),
             SurfaceReadFault::Size | SurfaceReadFault::Buffer => 0,
         }
+    }
+}
+
+impl fmt::Display for SurfaceReadFault {
+    ghost output = { λ fault. Some (refusal_text (surface_told fault)) };
+
+    fn fmt<W: fmt::Write>(&self, f: &mut fmt::Formatter<W>) -> fmt::Result {
+        Told::of(self).fmt(f)
     }
 }
 

@@ -1,10 +1,10 @@
 -- The kinds of nodes among the kinds of words.
-use Rattle.std.proofs.Common.{◌≡◌, ℕ, ◌/◌, ◌≢◌, true, false, ◌&&◌, leb, List, Ok, Err, refl, ap, ◌∙◌, subst, arith}
+use Rattle.std.proofs.Common.{◌≡◌, ℕ, ◌/◌, ◌≢◌, true, false, ◌&&◌, leb, List, Ok, Err, ap, ◌∙◌, subst, arith}
 use Rattle.std.proofs.lemmas.Bool.Decides.{nat_tests}
 use Rattle.words.specs.Kinds.{kind_number}
 use Rattle.words.specs.Reading.{word_at, kind_at, bare_at}
 use Rattle.words.specs.declared.kind.Kind.{Kind}
-use Rattle.words.specs.declared.kind.Kind.TheVariants.{Scene, Number, Ball, Block, Unite, Meet, Shift, Thicken, Surface, Image, Hit, Miss, Job, Refusal}
+use Rattle.words.specs.declared.kind.Kind.TheVariants.{Ball, Block, Unite, Meet, Shift, Thicken}
 use Rattle.words.specs.declared.kind.UnknownKind.{UnknownKind}
 use Rattle.words.proofs.Chains.{first_ok, test_held, same_ok}
 use Rattle.scene_reader.specs.Kinds.{kind_of, node_kind}
@@ -15,26 +15,6 @@ no_word e n h =
     let a = h.1 Ball in let b = h.1 Block in let c = h.1 Unite in let d = h.1 Meet in let f = h.1 Shift in let g = h.1 Thicken in
     let t : (leb 3 n && leb n 8) ≡ false = grind (arith, nat_tests) in
     simp t (ap (λ m. Err (record { 0 = m })) h.0)
-
--- nor is that of another kind of word
-pub no_node : (w : Kind) (n : ℕ) → kind_number w ≡ n → w ≢ Ball → w ≢ Block → w ≢ Unite → w ≢ Meet → w ≢ Shift → w ≢ Thicken → Err (record { 0 = n }) ≡ node_kind n
-no_node w n e a b c d f g = rw (← e) (other w a b c d f g)
-  where
-    other : (v : Kind) → v ≢ Ball → v ≢ Block → v ≢ Unite → v ≢ Meet → v ≢ Shift → v ≢ Thicken → Err (record { 0 = kind_number v }) ≡ node_kind (kind_number v)
-    other Scene a b c d e f = refl
-    other Number a b c d e f = refl
-    other Ball a b c d e f = absurd (a refl)
-    other Block a b c d e f = absurd (b refl)
-    other Unite a b c d e f = absurd (c refl)
-    other Meet a b c d e f = absurd (d refl)
-    other Shift a b c d e f = absurd (e refl)
-    other Thicken a b c d e f = absurd (f refl)
-    other Surface a b c d e f = refl
-    other Image a b c d e f = refl
-    other Hit a b c d e f = refl
-    other Miss a b c d e f = refl
-    other Job a b c d e f = refl
-    other Refusal a b c d e f = refl
 
 -- a word whose kind is from 3 to 8 is a node's
 pub node_word : (bs : List ℕ) (k n : ℕ) → bare_at bs k 3 8 ≡ Ok n → node_kind n ≡ Ok (kind_of n)

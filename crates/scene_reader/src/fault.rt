@@ -1,11 +1,14 @@
 //! Why a scene is refused.
-ghost use Rattle.std.specs.Prelude.{◌≡◌};
+ghost use Rattle.std.specs.Prelude.{◌≡◌, Some};
+ghost use Rattle.refusal.specs.Texts.{refusal_text};
 ghost use Rattle.words.specs.Told.{place_told};
 ghost use Rattle.scene_reader.specs.Told.{scene_told};
 ghost use Rattle.scene_reader.specs.declared.fault.SceneFault.TheVariants.{Word};
 
+use refusal::told::Told;
 use refusal::{Refusal, Rule};
 use scene::draft::DraftFault;
+use std::fmt;
 use words::fault::{WordFault, tell};
 
 /// Why a scene is refused.
@@ -39,6 +42,14 @@ impl Refusal for SceneFault {
             SceneFault::Count => 0,
             SceneFault::Numbers { place } | SceneFault::Node { place, .. } => tell(*place),
         }
+    }
+}
+
+impl fmt::Display for SceneFault {
+    ghost output = { λ fault. Some (refusal_text (scene_told fault)) };
+
+    fn fmt<W: fmt::Write>(&self, f: &mut fmt::Formatter<W>) -> fmt::Result {
+        Told::of(self).fmt(f)
     }
 }
 

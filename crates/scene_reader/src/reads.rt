@@ -10,9 +10,9 @@ ghost use Rattle.scene_reader.specs.ScenesBack.{ScenesReadBack};
 
 use super::fault::SceneFault;
 use super::kind::Kind;
+use lattice::{LEAST_COORDINATE, MOST_COORDINATE};
 use layers::{LEAST_THICKNESS, MOST_OFFSET, MOST_THICKNESS};
 use leaves::ball::{LEAST_RADIUS, MOST_RADIUS};
-use leaves::fault::{LEAST_COORDINATE, MOST_COORDINATE};
 use scene::Scene;
 use scene::draft::{Draft, DraftFault};
 use words::kind::Kind as Word;
@@ -60,8 +60,6 @@ fn check(draft: &Draft, kind: Kind, place: usize, count: usize) -> Result<(), Sc
 }
 
 /// Reads the numbers of the node at a place, and lays it down.
-// A struct of reader and draft would be no plainer, here and in the two below: the reader is the caller's and
-// the draft is made for the reading, `check` takes the draft alone, and `Down` would name both parts of it.
 #[tactic(auto, unfolding(crate::specs::Scenes::laid))]
 fn lay(from: &mut Reader<'_>, draft: &mut Draft, node: usize, kind: Kind) -> Result<(), SceneFault>
     requires here { place from.old ≡ node + 1 }
@@ -143,8 +141,7 @@ fn count(from: &mut Reader<'_>) -> Result<usize, SceneFault>
 /// Reads a scene, which begins at the word that is due, into a place that the caller holds. A
 /// refused one leaves the reader and the caller's scene as they were. Every scene is read back from
 /// its words.
-// It reads by a copy of the reader, so that a refused scene leaves the caller's where it was; a closure
-// over the copy would take as many lines.
+// It reads by a copy of the reader, so that a refused scene leaves the caller's where it was.
 pub fn read_scene(from: &mut Reader<'_>, scene: &mut Scene) -> Result<(), SceneFault>
     ensures value { (result, scene_body scene.new) ≡ put_scene (scene_body scene.old) (scene_of (ahead from.old)) }
     ensures read { MatchResult (scene_of (ahead from.old)) (λ x. Begun (1 + x.0) from.old from.new) (λ _. from.new ≡ from.old) }

@@ -8,17 +8,16 @@ use leaves::axis_box::AxisBox;
 use leaves::ball::Ball;
 use march::rays::{Marching, Outcome, Settled, Stepped};
 use march::view::ViewNumbers;
-use refusal::Refusal;
-use refusal::told::Told;
 use solid::Solid;
+use std::fmt;
 
 mod played;
 
 /// No ray takes more steps than this: its far is at most 4,095, and each step goes on by 1 or more.
 const MOST_STEPS: u32 = 4096;
 
-fn refused<F: Refusal>(rt: &HostRuntime, what: &str, fault: &F) -> anyhow::Result<()> {
-    println!(rt; "{what} is refused: {}", Told::of(fault))?;
+fn refused<F: fmt::Display>(rt: &HostRuntime, what: &str, fault: &F) -> anyhow::Result<()> {
+    println!(rt; "{what} is {fault}")?;
     Ok(())
 }
 
@@ -84,8 +83,8 @@ fn straight_down(origin: Point, width: i32, height: i32, far: i32) -> ViewNumber
 }
 
 /// What was made; the solids of this task are never refused.
-fn made<T, F: Refusal + Drop>(res: Result<T, F>) -> anyhow::Result<T> {
-    res.map_err(|_| anyhow!("a solid of the walkthrough is refused"))
+fn made<T, F: fmt::Display + Drop>(res: Result<T, F>) -> anyhow::Result<T> {
+    res.map_err(|fault| anyhow!("a solid of the walkthrough is {fault}"))
 }
 
 /// A boss under a clamp: a ball united with a box that is shifted into place, both thickened by

@@ -113,7 +113,7 @@ fn without_it<S: Solid>(rt: &HostRuntime, plate: &mut Plate, stock: &S) -> anyho
 /// A scanned piece of stock, four columns by two, under a clamp that lies over two of them.
 pub(super) fn play(rt: &HostRuntime) -> anyhow::Result<()> {
     let heights: [i16; 8] = [3, 3, 2, 0, 1, 1, 1, -30];
-    let stock = Surface::new(made(Sheet::check(WIDTH, HEIGHT, &heights))?, &heights);
+    let stock = Surface::new(made(Sheet::check(WIDTH, HEIGHT, &heights))?);
     let clamp = made(AxisBox::new(Point::new(1, 0, 5), Point::new(2, 1, 8)))?;
     let clamped = Unite::new(&stock, clamp);
     let mut records = [Pixel::Miss { probes: 0 }; RECORDS];

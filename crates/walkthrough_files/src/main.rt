@@ -23,7 +23,7 @@ const DAMAGE: u8 = 0x70;
 /// Renders a file, tells what the answer says, and gives its words.
 fn rendered(rt: &HostRuntime, file: &[u8]) -> anyhow::Result<Vec<u32>> {
     let heap = rt.alloc();
-    // The kit uses no heap, and a crate for these four lines would be no plainer.
+    // The kit uses no heap: what it works on is lent to it.
     let mut records = Vec::new(heap);
     records.resize(MOST_PIXELS, Pixel::Miss { probes: 0 })?;
     let mut out = Vec::new(heap);

@@ -91,7 +91,7 @@ fn tell_refusal(rt: &HostRuntime, word: u32) -> anyhow::Result<()> {
     let number = (word >> 16) & 0xff;
     let place = lower(word);
     let told = Told { number, place };
-    println!(rt; "{word:08x}: refused, part {part}, {told}")?;
+    println!(rt; "{word:08x}: part {part} is {told}")?;
     Ok(())
 }
 

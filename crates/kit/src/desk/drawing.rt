@@ -23,7 +23,6 @@ use march::deep::Deep;
 use march::view::ViewNumbers;
 use plate::Plate;
 use readers::job::Job;
-use readers::surface::SurfaceSize;
 use readers::surface::reads::MOST_HEIGHTS;
 use scene::Scene;
 use scene::exact::ExactScene;
@@ -83,38 +82,27 @@ impl Desk<'_> {
         let moved = Shift::new(sheet, job.shift).unwrap();
         let clipped = Meet::new(job.clip, Unite::new(moved, scene));
         let pile = Cap::new(clipped, LONGEST_STRIDE).unwrap();
-        if Deep::of(&pile).is_none() {
-            return Err(InputFault::Shallow);
-        }
+        Deep::of(&pile)?;
         Ok(self.picture(&pile, job.view))
     }
 
     /// The picture of a model. A guard of 1 or more is a thickness for the scene, which has to be
-    /// exact then; at 0 that layer is absent. The size and the heights stay two: a `Surface` holds both,
-    /// but a promise over one would have to take it apart again, since a model has its size and heights.
+    /// exact then; at 0 that layer is absent.
     fn draw_model(
         &mut self,
         job: &Job,
         scene: &Scene,
-        size: SurfaceSize,
-        heights: &[i16],
+        sheet: Sheet<'_>,
     ) -> Result<usize, InputFault>
-        requires sides { (1 ≤ size.width) × (size.width ≤ 64) × (1 ≤ size.depth) × (size.depth ≤ 64) }
-        requires heights { length heights.now ≡ size.width * size.depth }
-        ensures value { (result, self.new.records.now, self.new.out.now) ≡ tried (whole (model_of (job_numbers job.now) (scene_body scene.now) size heights.now)) self.old.records.now self.old.out.now }
-        ensures shows { OnOk result (Contact (model_of (job_numbers job.now) (scene_body scene.now) size heights.now) self.new.out.now) }
+        ensures value { (result, self.new.records.now, self.new.out.now) ≡ tried (whole (model_of (job_numbers job.now) (scene_body scene.now) sheet.entry.size sheet.entry.heights.now)) self.old.records.now self.old.out.now }
+        ensures shows { OnOk result (Contact (model_of (job_numbers job.now) (scene_body scene.now) sheet.entry.size sheet.entry.heights.now) self.new.out.now) }
         ensures lender { SameLoans self.old self.new }
     {
         if !may_be_guarded(scene, job.guard) {
             return Err(InputFault::Inexact);
         }
-        let sheet = Sheet {
-            width: size.width,
-            depth: size.depth,
-        };
-        let surface = Surface::new(sheet, heights);
-        // The guard is no Option: the format's is a number from 0, and an Option would be made of it here and
-        // matched at once.
+        let surface = Surface::new(sheet);
+        // A guard of 0 is none.
         if job.guard == 0 {
             return self.pile_up(surface, scene, job);
         }
@@ -132,7 +120,11 @@ impl Desk<'_> {
         // On no heap, since a caller in C lends none.
         let mut heights = [0; MOST_HEIGHTS];
         let (job, size) = read_parts(input, &mut scene, &mut heights)?;
-        self.draw_model(&job, &scene, size, &heights[..size.columns()])
+        let sheet = Sheet {
+            size,
+            heights: &heights[..size.columns()],
+        };
+        self.draw_model(&job, &scene, sheet)
     }
 
     /// Writes one word in front of the bytes. How many bytes it has.

@@ -7,11 +7,11 @@ ghost use Rattle.readers.specs.JobsBack.{JobsReadBack};
 
 use super::{Job, JobFault};
 use geometry::ordered;
+use lattice::{LEAST_COORDINATE, MOST_COORDINATE};
 use layers::{LEAST_THICKNESS, MOST_OFFSET, MOST_THICKNESS};
 use leaves::axis_box::AxisBox;
-use leaves::fault::{LEAST_COORDINATE, MOST_COORDINATE};
 use march::view::ViewNumbers;
-use march::view::checks::{LEAST_PART, MOST_FAR, MOST_PART, MOST_SIDE};
+use march::view::checks::{MOST_FAR, MOST_SIDE};
 use words::fault::WordFault;
 use words::kind::Kind;
 use words::reader::Reader;
@@ -24,7 +24,7 @@ fn view(from: &mut Reader<'_>) -> Result<ViewNumbers, WordFault>
     ensures moved { OnOk result (Moved result 9 from.old from.new) }
 {
     Ok(ViewNumbers {
-        origin: from.point(LEAST_PART, MOST_PART)?,
+        origin: from.point(LEAST_COORDINATE, MOST_COORDINATE)?,
         ray: from.row()?,
         across: from.row()?,
         down: from.row()?,
@@ -43,8 +43,7 @@ pub fn read_job(from: &mut Reader<'_>) -> Result<Job, JobFault>
     ensures same { OnErr result (from.new ≡ from.old) }
     ensures back { JobsReadBack }
 {
-    // By a copy, so that a refused job leaves the reader where it was; a closure over the copy would take
-    // as many lines.
+    // By a copy, so that a refused job leaves the reader where it was.
     let mut ahead = *from;
     ahead.next_part();
     ahead.bare_of(Kind::Job)?;

@@ -6,8 +6,8 @@ ghost use Rattle.words.specs.Reading.{held};
 ghost use Rattle.words.specs.Cursor.{text, place, ahead, Moved, Begun};
 ghost use Rattle.readers.specs.SurfacesBack.{SurfacesReadBack};
 
-use super::{SurfaceReadFault, SurfaceSize};
-use leaves::surface::Sheet;
+use super::SurfaceReadFault;
+use leaves::surface::SurfaceSize;
 use words::fault::WordFault;
 use words::kind::{FIRST_OF_TWO, Kind};
 use words::reader::Reader;
@@ -27,11 +27,7 @@ fn size(from: &mut Reader<'_>, room: usize) -> Result<SurfaceSize, SurfaceReadFa
     let sides = from.rest_of(Kind::Surface)?;
     let width = (sides / FIRST_OF_TWO) as i32;
     let depth = (sides % FIRST_OF_TWO) as i32;
-    let sheet = Sheet::for_room(width, depth, room)?;
-    Ok(SurfaceSize {
-        width: sheet.width,
-        depth: sheet.depth,
-    })
+    Ok(SurfaceSize::for_room(width, depth, room)?)
 }
 
 /// Reads the heights of the columns of a sheet.
@@ -59,8 +55,7 @@ pub fn read_surface(
     ensures same { OnErr result (from.new ≡ from.old) }
     ensures back { SurfacesReadBack }
 {
-    // By a copy, so that a refused surface leaves the reader where it was; a closure over the copy would
-    // take as many lines.
+    // By a copy, so that a refused surface leaves the reader where it was.
     let mut ahead = *from;
     ahead.next_part();
     let size = size(&mut ahead, buffer.len())?;

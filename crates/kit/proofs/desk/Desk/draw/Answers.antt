@@ -15,21 +15,21 @@ slice_bounds-heights-end c =
     let m = model_of (job_numbers c.in_ok-job.job) (scene_body c.read_parts.new.scene) size hs in
     omega (arith, (model_sound c.args.input.now m (sym c.in_ok-job.ensures)).long, length-take (size.width * size.depth) hs)
 
-pub slice_bounds-draw_model-end : goal.slice_bounds-draw_model-end
-slice_bounds-draw_model-end c =
+pub slice_bounds-sheet-end : goal.slice_bounds-sheet-end
+slice_bounds-sheet-end c =
     let size = c.in_ok-job.size in
     let hs = c.read_parts.new.heights in
     let m = model_of (job_numbers c.in_ok-job.job) (scene_body c.read_parts.new.scene) size hs in
     let s = model_sound c.args.input.now m (sym c.in_ok-job.ensures) in
     omega (arith, s.long, length-take (size.width * size.depth) hs, length-take c.columns.result hs, c.columns.ensures)
 
-pub draw_model-requires : goal.draw_model-requires
-draw_model-requires c =
+pub invariant_of-sheet : goal.invariant_of-sheet
+invariant_of-sheet c =
     let size = c.in_ok-job.size in
     let hs = c.read_parts.new.heights in
     let m = model_of (job_numbers c.in_ok-job.job) (scene_body c.read_parts.new.scene) size hs in
     let s = model_sound c.args.input.now m (sym c.in_ok-job.ensures) in
-    record { sides = s.sides; heights = omega (arith, s.long, length-take (size.width * size.depth) hs, length-take c.columns.result hs, c.columns.ensures) }
+    record { wide = (s.sides.0, s.sides.1); deep = (s.sides.2, s.sides.3); full = omega (arith, s.long, length-take (size.width * size.depth) hs, length-take c.columns.result hs, c.columns.ensures) }
 
 pub returns-clause-shows : goal.returns-clause-shows
 returns-clause-shows c =

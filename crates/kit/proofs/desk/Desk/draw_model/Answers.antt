@@ -1,4 +1,4 @@
-use Rattle.std.proofs.Common.{◌≡◌, ℕ, Bool, List, IfOk, Ok, Err, Result, refl, sym, ap, ◌∙◌}
+use Rattle.std.proofs.Common.{◌≡◌, ℕ, Bool, List, IfOk, Ok, Err, Result, sym, ap, ◌∙◌}
 use mathlib.Core.Path.{subst⁻¹}
 use Rattle.lattice.specs.declared.Point.{Point}
 use Rattle.solid.specs.Body.{Body}
@@ -25,12 +25,11 @@ pub returns-then-job-eq0 : goal.returns-then-job-eq0
 returns-then-job-eq0 c =
     let j = c.args.job.now in
     let s = scene_body c.args.scene.now in
-    let size = c.args.size in
-    let hs = c.args.heights.now in
+    let size = c.args.sheet.size in
+    let hs = c.args.sheet.heights.now in
     let m = model_of (job_numbers j) s size hs in
     let may = sym c.may_be_guarded.ensures ∙ c.if-not-may_be_guarded.false in
-    let is = heap_is j s s size hs c.new-surface.result.heights.now _ c.new-surface.result.sheet c.requires.heights refl
-    c.new-surface.ensures.sheet c.new-surface.ensures.heights (unguarded j.guard s c.if-job-eq0.true) in
+    let is = heap_is j s s _ size hs c.args.sheet.full c.new-surface.ensures (unguarded j.guard s c.if-job-eq0.true) in
     record {
       value = c.pile_up.ensures.value ∙ ap (λ (b : Body). over b j.view c.args.self.now.records.now c.args.self.now.out.now) is ∙ over_whole m c.args.self.now.records.now c.args.self.now.out.now may;
       shows = shown_so c.pile_up.result _ _ j.view (members m) c.pile_up.new.self.out.now is (model_piled j s size hs (scene_lawful c.args.scene.now) may) c.pile_up.ensures.shows;
@@ -44,12 +43,11 @@ pub returns : goal.returns
 returns c =
     let j = c.args.job.now in
     let s = scene_body c.args.scene.now in
-    let size = c.args.size in
-    let hs = c.args.heights.now in
+    let size = c.args.sheet.size in
+    let hs = c.args.sheet.heights.now in
     let m = model_of (job_numbers j) s size hs in
     let may = sym c.may_be_guarded.ensures ∙ c.if-not-may_be_guarded.false in
-    let is = heap_is j s _ size hs c.new-surface.result.heights.now _ c.new-surface.result.sheet c.requires.heights refl
-    c.new-surface.ensures.sheet c.new-surface.ensures.heights (c.thickened-thick.ensures ∙ on_guard j.guard s c.if-job-eq0.false) in
+    let is = heap_is j s _ _ size hs c.args.sheet.full c.new-surface.ensures (c.thickened-thick.ensures ∙ on_guard j.guard s c.if-job-eq0.false) in
     record {
       value = c.pile_up-2.ensures.value ∙ ap (λ (b : Body). over b j.view c.args.self.now.records.now c.args.self.now.out.now) is ∙ over_whole m c.args.self.now.records.now c.args.self.now.out.now may;
       shows = shown_so c.pile_up-2.result _ _ j.view (members m) c.pile_up-2.new.self.out.now is (model_piled j s size hs (scene_lawful c.args.scene.now) may) c.pile_up-2.ensures.shows;

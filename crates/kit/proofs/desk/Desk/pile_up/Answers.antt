@@ -1,4 +1,4 @@
-use Rattle.std.proofs.Common.{◌≡◌, ℕ, ◌<◌, ◌≤◌, leb, List, true, Option, Some, None, MatchOption, is_some, not, is_ok, Ok, Err, refl, sym, ap, ◌∙◌, subst, rules, arith}
+use Rattle.std.proofs.Common.{◌≡◌, ℕ, ◌<◌, ◌≤◌, leb, List, is_ok, Ok, Err, Result, sym, ap, ◌∙◌, subst, rules}
 use mathlib.Core.Path.{subst⁻¹}
 use Rattle.std.proofs.lemmas.Bool.{cond-true, cond-false, le-leb, lt-leb}
 use Rattle.solid.specs.Body.{Body}
@@ -15,45 +15,41 @@ use Rattle.layers.specs.declared.Cap.{Cap}
 use Rattle.kit.proofs.desk.Desk.pile_up.Goals as goal
 
 -- what a refused pile leaves, and what the picture of another does
-too_shallow : (b : Body) (n : ViewNumbers) (rs : List Pixel) (out : List ℕ) → b.reach < 32767 → ◌≡◌ {A = Left InputFault} (Err Shallow, rs, out) (over b n rs out)
-too_shallow b n rs out h = sym (cond-false (leb 32767 b.reach) _ _ (lt-leb 32767 b.reach h))
+too_shallow : (b : Body) (n : ViewNumbers) (rs : List Pixel) (out : List ℕ) (r : Result ℕ InputFault) → r ≡ Err Shallow → b.reach < 32767 → ◌≡◌ {A = Left InputFault} (r, rs, out) (over b n rs out)
+too_shallow b n rs out r e h = ap (λ (x : Result ℕ InputFault). (x, rs, out)) e ∙ sym (cond-false (leb 32767 b.reach) _ _ (lt-leb 32767 b.reach h))
 
 deep_enough : (b : Body) (n : ViewNumbers) (rs qs : List Pixel) (out text : List ℕ) (k : ℕ) → 32767 ≤ b.reach
     → ◌≡◌ {A = ℕ × List Pixel × List ℕ} (k, qs, text) (shot b (plain_of n) rs out) → ◌≡◌ {A = Left InputFault} (Ok k, qs, text) (over b n rs out)
 deep_enough b n rs qs out text k h e =
     ap (λ (s : ℕ × List Pixel × List ℕ). (Ok s.0, s.1, s.2)) e ∙ sym (cond-true (leb 32767 b.reach) _ _ (le-leb 32767 b.reach h))
 
--- what is so of each solid that was found deep enough is so of this one
-held : {A P : Type 0} (o : Option A) (low : Type 0) (same : A → Type 0) → is_some o ≡ true → MatchOption o low same → ((a : A) → same a → P) → P
-held (Some a) low same h m f = f a m
-held None low same h m f = let z : ◌≡◌ {A = ℕ} 0 1 = cc in absurd (omega arith)
-
 pub unwrap-pile-requires : goal.unwrap-pile-requires
-unwrap-pile-requires g c = sym (ok_mapped _ _ c.new-3.result) ∙ ap is_ok c.new-3.ensures
+unwrap-pile-requires g c = sym (ok_mapped _ _ c.new-3.result) ∙ ap is_ok c.new-3.ensures.value
 
 pub picture-requires-clause-deep : goal.picture-requires-clause-deep
 picture-requires-clause-deep g c =
-    held c.of.result _ _ (c.is_none.ensures ∙ ap not c.if-is_none.false) c.of.ensures (λ deep e. let P : Cap (Below g.row.T.Denot g.row.S.Denot) → Type 0 = λ x. 32767 ≤ (capped x.most (below_body g.T.Solid.body g.S.Solid.body x.below)).reach in subst P e deep.far_enough)
+    let P : Cap (Below g.row.T.Denot g.row.S.Denot) → Type 0 = λ x. 32767 ≤ (capped x.most (below_body g.T.Solid.body g.S.Solid.body x.below)).reach in
+    subst P (c.in_ok-of.ensures {u = tt}) c.in_ok-of.field-0.far_enough
 
-pub returns-then-is_none : goal.returns-then-is_none
-returns-then-is_none g c =
+pub returns-in_err-of-clause-value : goal.returns-in_err-of-clause-value
+returns-in_err-of-clause-value g c =
     let j = c.args.job.now in
     let same = stacked g.T.Solid.body g.S.Solid.body c.unwrap-pile.result c.new-clipped.result c.new-2.result c.args.job.now.clip c.unwrap-moved.result c.args.sheet c.args.scene j.shift
-    (under c.new-3.result c.unwrap-pile.result c.new-clipped.result c.unwrap-pile.ensures c.new-3.ensures)
-    c.new-clipped.ensures c.new-2.ensures
-    (unwrapped c.new.result _ _ c.unwrap-moved.ensures (c.new.ensures ∙ shift_stands (g.T.Solid.body c.args.sheet).reach j.shift _ j.near c.requires.far)) in
-    record { value = too_shallow _ j.view c.args.self.now.records.now c.args.self.now.out.now (subst (λ (b : Body). b.reach < 32767) same (search rules)); shows = tt; lender = (refl, refl) }
+    (under c.new-3.result c.unwrap-pile.result c.new-clipped.result c.unwrap-pile.ensures c.new-3.ensures.value)
+    c.new-clipped.ensures.value c.new-2.ensures.value
+    (unwrapped c.new.result _ _ c.unwrap-moved.ensures (c.new.ensures.value ∙ shift_stands (g.T.Solid.body c.args.sheet).reach j.shift _ j.near c.requires.far)) in
+    too_shallow _ j.view c.args.self.now.records.now c.args.self.now.out.now c.from_residual.result (search rules) (subst (λ (b : Body). b.reach < 32767) same (c.in_err-of.ensures {u = tt}))
 
 pub returns : goal.returns
 returns g c =
     let j = c.args.job.now in
     let same = stacked g.T.Solid.body g.S.Solid.body c.unwrap-pile.result c.new-clipped.result c.new-2.result c.args.job.now.clip c.unwrap-moved.result c.args.sheet c.args.scene j.shift
-    (under c.new-3.result c.unwrap-pile.result c.new-clipped.result c.unwrap-pile.ensures c.new-3.ensures)
-    c.new-clipped.ensures c.new-2.ensures
-    (unwrapped c.new.result _ _ c.unwrap-moved.ensures (c.new.ensures ∙ shift_stands (g.T.Solid.body c.args.sheet).reach j.shift _ j.near c.requires.far)) in
+    (under c.new-3.result c.unwrap-pile.result c.new-clipped.result c.unwrap-pile.ensures c.new-3.ensures.value)
+    c.new-clipped.ensures.value c.new-2.ensures.value
+    (unwrapped c.new.result _ _ c.unwrap-moved.ensures (c.new.ensures.value ∙ shift_stands (g.T.Solid.body c.args.sheet).reach j.shift _ j.near c.requires.far)) in
     record {
       value = deep_enough _ j.view c.args.self.now.records.now c.picture.new.self.records.now c.args.self.now.out.now c.picture.new.self.out.now c.picture.result
-          (subst (λ (b : Body). 32767 ≤ b.reach) same (held c.of.result _ _ (c.is_none.ensures ∙ ap not c.if-is_none.false) c.of.ensures (λ deep e. let P : Cap (Below g.row.T.Denot g.row.S.Denot) → Type 0 = λ x. 32767 ≤ (capped x.most (below_body g.T.Solid.body g.S.Solid.body x.below)).reach in subst P e deep.far_enough)))
+          (subst (λ (b : Body). 32767 ≤ b.reach) same (let P : Cap (Below g.row.T.Denot g.row.S.Denot) → Type 0 = λ x. 32767 ≤ (capped x.most (below_body g.T.Solid.body g.S.Solid.body x.below)).reach in subst P (c.in_ok-of.ensures {u = tt}) c.in_ok-of.field-0.far_enough))
           (c.picture.ensures.value ∙ ap (λ (b : Body). shot b (plain_of j.view) c.args.self.now.records.now c.args.self.now.out.now) same);
       shows = λ M piled. c.picture.ensures.shows M (subst⁻¹ (Piled M) same piled);
       lender = c.picture.ensures.lender;

@@ -4,7 +4,7 @@ use Rattle.words.specs.Cursor.{text}
 use Rattle.readers.specs.Jobs.{view_at, pile_at, job_of}
 use Rattle.readers.proofs.Numbers.{pile_read}
 use Rattle.readers.proofs.ReadBack.{jobs_back}
-use Rattle.readers.proofs.Stands.{view_stands, pile_kept, corner_in}
+use Rattle.readers.proofs.Stands.{view_stands, pile_kept, corner_placed}
 use Rattle.readers.proofs.job.reads.read_job.Goals as goal
 
 pub returns-in_err-bare_of-clause-back : goal.returns-in_err-bare_of-clause-back
@@ -48,7 +48,7 @@ invariant_of-result c =
     let bs = text c.next_part.new.self in
     let p : pile_at bs ≡ Ok (c.in_ok-guard.guard, c.in_ok-shift.shift, c.in_ok-lo.lo, c.in_ok-hi.hi) = pile_read _ _ _ _ _ (search rules) (search rules) (search rules) (search rules) in
     let k = pile_kept bs _ p in
-    record { low = corner_in c.in_ok-lo.lo k.2; high = corner_in c.in_ok-hi.hi k.3; upright = search rules }
+    record { lo_is_placement = corner_placed c.in_ok-lo.lo k.2; hi_is_placement = corner_placed c.in_ok-hi.hi k.3; upright = search rules }
 
 pub invariant_of-result-2 : goal.invariant_of-result-2
 invariant_of-result-2 c =
@@ -57,4 +57,4 @@ invariant_of-result-2 c =
     let p : pile_at bs ≡ Ok (c.in_ok-guard.guard, c.in_ok-shift.shift, c.in_ok-lo.lo, c.in_ok-hi.hi) = pile_read _ _ _ _ _ (search rules) (search rules) (search rules) (search rules) in
     let k = pile_kept bs _ p in
     let s = k.0 in
-    record { seen = view_stands bs _ v; slight = omega (arith, ints, s); near = k.1; low = k.2; high = k.3 }
+    record { seen = view_stands bs _ v; slight = omega (arith, ints, s); near = k.1 }
