@@ -50,9 +50,6 @@ read_ends v rs qs i j r e = told_is r ∙ ap (λ (x : Answer × List Pixel). ref
 
 -- where the calls come to an end
 module _ (o : Result PlainView PlateFault) (a b : Body) (i j : ℕ) (r : Result Pixel PlateFault) where
-  pub at_opening : (e : PlateFault) → r ≡ Err e → Err e ≡ o → refusal r ≡ ends o a b i j
-  at_opening e is x = ap refusal is ∙ ap (λ (o : Result PlainView PlateFault). ends o a b i j) x
-
   pub at_first : (e : PlateFault) (w : PlainView) → r ≡ Err e → Ok w ≡ o → Err e ≡ sweeps a → refusal r ≡ ends o a b i j
   at_first e w is x y = ap refusal is ∙ ap (λ (s : Result (Unit {0}) PlateFault). result_and s (result_and (sweeps b) (reads w i j))) y ∙ ap (λ (o : Result PlainView PlateFault). ends o a b i j) x
 

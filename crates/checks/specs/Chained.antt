@@ -1,5 +1,5 @@
 -- Two sweeps, m probes over a body a and then n over a body b: when they are refused, and what a pixel says that was read after them.
-use Rattle.std.specs.Prelude.{◌≡◌, ℕ, ◌+◌, ◌*◌, ◌≤◌, Bool, false, ◌&&◌, cond, [], ◌∷◌, Ok, Err, Result, nat_lt}
+use Rattle.std.specs.Prelude.{◌≡◌, ℕ, ◌+◌, ◌*◌, ◌≤◌, Bool, false, ◌&&◌, cond, if◌then◌else◌, List, [], ◌∷◌, ◌++◌, drop, Ok, Err, Result, nat_lt}
 use Rattle.std.specs.Result.{result_and, result_map_both}
 use Rattle.lattice.specs.declared.Point.{Point}
 use Rattle.lattice.specs.Space.{In}
@@ -7,11 +7,11 @@ use Rattle.solid.specs.Body.{Body, Lawful}
 use Rattle.march.specs.declared.pixel.Pixel.{Pixel}
 use Rattle.march.specs.declared.view.View.{View}
 use Rattle.march.specs.declared.view.ViewFault.{ViewFault}
-use Rattle.march.specs.Checks.{PlainView}
+use Rattle.march.specs.Checks.{PlainView, plain_view}
 use Rattle.march.specs.March.{marches, probes, Takes}
 use Rattle.plate_log.specs.declared.fault.PlateFault.{PlateFault}
 use Rattle.plate_log.specs.declared.fault.PlateFault.TheVariants.{View as Number, TooFewRecords, NoPixel, Shallow}
-use Rattle.plate_log.specs.Log.{area, clear_at, deep, sweeping, pixel}
+use Rattle.plate_log.specs.Log.{Call, area, clear_at, deep, sweeping, stands, pixel}
 use Rattle.plate_log.specs.Fair.{Inside}
 use Rattle.plate_log.specs.Law.{Same, Shows}
 
@@ -34,6 +34,17 @@ reads v i j = cond (nat_lt i v.width && nat_lt j v.height) (Ok tt) (Err NoPixel)
 abbrev pub ends : Result PlainView PlateFault → (a b : Body) (i j : ℕ) → Result (Unit {0}) PlateFault
 ends (Err e) a b i j = Err e
 ends (Ok v) a b i j = result_and (sweeps a) (result_and (sweeps b) (reads v i j))
+
+-- the sweeps that are called: a refused one is the last
+abbrev pub sweeps_called : (a b : Body) (m n : ℕ) → List Call
+sweeps_called a b m n = if deep a then sweeping a m ∷ sweeping b n ∷ [] else sweeping a m ∷ []
+
+-- What the records hold at the end. Where there was no opening, all are as they were; else the pixels
+-- are those of the log of the sweeps that were called, and the records past them are as they were.
+abbrev pub RecordsAfter : Result PlainView PlateFault → (a b : Body) (m n : ℕ) (old new : List Pixel) → Type 0
+RecordsAfter (Err e) a b m n old new = new ≡ old
+RecordsAfter (Ok w) a b m n old new =
+    (v : View) × (plain_view v ≡ w) × (new ≡ stands v (sweeps_called a b m n) ++ drop (area v) old)
 
 pub record Picture (v : View) (a b : Body) (m n i j : ℕ) (q : Pixel) : Type 0 where
   pub within : Inside v i j

@@ -1,3 +1,4 @@
 pub mod Worked
 pub mod Empty
 pub mod Chained
+pub mod Piles

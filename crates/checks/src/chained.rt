@@ -2,7 +2,7 @@
 ghost use Rattle.std.specs.Prelude.{◌≡◌, [], ◌∷◌, length, IfOk, Ok, Err};
 ghost use Rattle.march.specs.declared.view.View.{View};
 ghost use Rattle.march.specs.Checks.{plain_view, view_answer};
-ghost use Rattle.checks.specs.Chained.{Picture, refusal, opens, ends};
+ghost use Rattle.checks.specs.Chained.{Picture, RecordsAfter, refusal, opens, ends};
 
 use march::pixel::Pixel;
 use march::view::ViewNumbers;
@@ -24,6 +24,8 @@ pub fn two_sweeps<A: Solid, B: Solid>(
 ) -> Result<Pixel, PlateFault>
     ensures ends { refusal result ≡ ends (opens (view_answer numbers) (length records.old)) (A.Solid.body a.now) (B.Solid.body b.now) i j }
     ensures picture { IfOk result (λ q. (v : View) × (Ok (plain_view v) ≡ view_answer numbers) × Picture v (A.Solid.body a.now) (B.Solid.body b.now) m n i j q) }
+    ensures records { RecordsAfter (opens (view_answer numbers) (length records.old))
+        (A.Solid.body a.now) (B.Solid.body b.now) m n records.old records.new }
 {
     let mut plate = Plate::new(records);
     plate.open(numbers)?;

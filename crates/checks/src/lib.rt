@@ -6,10 +6,15 @@ ghost use Rattle.checks.specs.Worked.{table, Worked};
 
 pub mod chained;
 #[cfg(test)]
+mod layered;
+#[cfg(test)]
 mod logs;
 pub mod own_make;
+pub mod piles;
 #[cfg(test)]
 mod reach;
+#[cfg(test)]
+mod shifts;
 #[cfg(test)]
 mod views;
 

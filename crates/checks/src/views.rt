@@ -2,8 +2,7 @@
 use lattice::Point;
 use march::view::ViewNumbers;
 
-/// A view straight down from an origin, its columns along x and its rows along y. The program walkthrough has
-/// the same: a crate for both, or a call of march, would be more than it saves.
+/// A view straight down from an origin, its columns along x and its rows along y.
 pub(crate) fn straight_down(origin: Point, width: i32, height: i32, far: i32) -> ViewNumbers {
     ViewNumbers {
         origin,
