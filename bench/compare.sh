@@ -7,7 +7,8 @@ cd "$(dirname "$0")"
 mkdir -p target
 crates=$(cd ../crates && pwd)
 { (cd "$crates/depth" && rt run <stdin >/dev/null) && (cd "$crates/depth_c" && rt lib); } >target/built.log 2>&1 || { tail target/built.log; exit 1; }
-RUSTFLAGS="-L native=$crates/depth_c/out" cargo build --release --features kit
+# The library is for the processors of x86-64-v2, so all is.
+RUSTFLAGS="-L native=$crates/depth_c/out -C target-cpu=x86-64-v2" cargo build --release --features kit
 depth="$crates/depth/out/depth"
 built=target/release
 
@@ -15,7 +16,7 @@ echo "== the program depth and the model"
 "$built/compare" "$inputs" "$seed" "$depth"
 echo "== the exported call and the model"
 "$built/compare" "$((5 * inputs))" "$((seed + 1))" --kit
-echo "== the model and the plain walk"
+echo "== the model, the walks and the flat marches"
 "$built/walkcheck" "$inputs" "$seed"
 echo "== speed"
 "$built/speed"

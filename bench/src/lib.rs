@@ -3,6 +3,8 @@
 pub mod cases;
 pub mod clock;
 pub mod draft;
+mod eights;
+pub mod flat;
 pub mod gen;
 pub mod kit;
 pub mod model;
@@ -29,6 +31,12 @@ pub fn answer(output: &[u8]) -> Answer {
         [_, _, _, top, ..] if top >> 4 == 10 => Answer::Image,
         _ => Answer::Unknown,
     }
+}
+
+/// Whether two outputs differ in nothing but the probes of pixels.
+pub fn alike_but_probes(a: &[u8], b: &[u8]) -> bool {
+    let is_of_probes = |at: usize| at >= 8 && at % 4 < 2;
+    a.len() == b.len() && a.iter().zip(b).enumerate().all(|(at, (a, b))| a == b || is_of_probes(at))
 }
 
 /// How many outputs were images, and how many were refusals of each number.

@@ -11,9 +11,9 @@ pub type Point = [i32; 3];
 /// The reach of a leaf.
 const LEAF_REACH: i32 = 1_048_576;
 /// The least reach a picture needs.
-const WORKING_REACH: i32 = 32_767;
+pub(crate) const WORKING_REACH: i32 = 32_767;
 /// The cap of a picture's pile.
-const CAP: i32 = 64;
+pub(crate) const CAP: i32 = 64;
 /// The most nodes of a scene.
 const MOST_NODES: usize = 256;
 /// The most words after a scene's start.
@@ -25,7 +25,7 @@ const COORDINATE: RangeInclusive<i32> = -16_384..=16_383;
 const OFFSET: RangeInclusive<i32> = -16_383..=16_383;
 const RADIUS: RangeInclusive<i32> = 0..=16_383;
 const THICKNESS: RangeInclusive<i32> = 0..=1_023;
-const SIDE: RangeInclusive<i32> = 1..=64;
+pub(crate) const SIDE: RangeInclusive<i32> = 1..=64;
 const FAR: RangeInclusive<i32> = 0..=4_095;
 const ROW: RangeInclusive<i32> = 0..=26;
 /// The row that does not move.
@@ -33,7 +33,7 @@ const STILL_ROW: i32 = 13;
 const HEIGHT: RangeInclusive<i32> = -32_768..=32_767;
 
 /// The kinds of words.
-mod kind {
+pub(crate) mod kind {
     pub const SCENE: u32 = 1;
     pub const NUMBER: u32 = 2;
     pub const BALL: u32 = 3;
@@ -51,7 +51,7 @@ mod kind {
 }
 
 /// A word of a kind; `low` holds its other bits.
-fn word(kind: u32, low: u32) -> u32 {
+pub(crate) fn word(kind: u32, low: u32) -> u32 {
     kind << 28 | low
 }
 
@@ -167,7 +167,7 @@ pub struct Job {
 }
 
 impl Job {
-    fn read(bytes: &[u8]) -> Result<(Job, &[u8]), Refusal> {
+    pub(crate) fn read(bytes: &[u8]) -> Result<(Job, &[u8]), Refusal> {
         let mut words = Words::new(bytes, Part::Job);
         words.take_named(kind::JOB..=kind::JOB, 0x0FFF_FFFF)?;
         let job = Job {
@@ -284,7 +284,7 @@ pub struct Scene {
 }
 
 impl Scene {
-    fn read(bytes: &[u8]) -> Result<(Scene, &[u8]), Refusal> {
+    pub(crate) fn read(bytes: &[u8]) -> Result<(Scene, &[u8]), Refusal> {
         let mut words = Words::new(bytes, Part::Scene);
         let count = (words.take(kind::SCENE..=kind::SCENE)? & 0x0FFF_FFFF) as usize;
         if !(1..=MOST_WORDS).contains(&count) {
@@ -348,6 +348,11 @@ impl Scene {
     pub fn nodes(&self) -> &[Node] {
         &self.table.nodes
     }
+
+    /// How far from the origin the scene may be asked.
+    pub fn reach(&self) -> i32 {
+        self.root.reach
+    }
 }
 
 /// Columns, one height each.
@@ -371,15 +376,26 @@ impl Surface {
             return Err(words.refusal(13, 0));
         }
         let heights = (0..width * depth).map(|_| words.number(HEIGHT)).collect::<Result<Vec<_>, _>>()?;
-        let top = heights.iter().copied().max().unwrap_or(0);
-        Ok((Surface { width, depth, heights, top }, words.rest))
+        Ok((Surface::new(width, depth, heights), words.rest))
     }
 
-    fn clearance(&self, [x, y, z]: Point) -> i32 {
+    /// A surface with a height for each column.
+    pub(crate) fn new(width: i32, depth: i32, heights: Vec<i32>) -> Surface {
+        let top = heights.iter().copied().max().unwrap_or(0);
+        Surface { width, depth, heights, top }
+    }
+
+    /// Whether the point is a member.
+    pub(crate) fn contains(&self, [x, y, z]: Point) -> bool {
         let inside = (0..self.width).contains(&x) && (0..self.depth).contains(&y);
-        if inside && z <= self.heights[(y * self.width + x) as usize] {
+        inside && z <= self.heights[(y * self.width + x) as usize]
+    }
+
+    pub(crate) fn clearance(&self, p: Point) -> i32 {
+        if self.contains(p) {
             return 0;
         }
+        let [x, y, z] = p;
         let beside = (-x).max(x - (self.width - 1)).max(-y).max(y - (self.depth - 1));
         beside.max(z - self.top).max(1)
     }
@@ -458,7 +474,7 @@ impl<'a> Pile<'a> {
 }
 
 /// The least k for which the offsets, each less k and not below 0, fit in the ball.
-fn ball_clearance(centre: Point, radius: i32, p: Point) -> i32 {
+pub(crate) fn ball_clearance(centre: Point, radius: i32, p: Point) -> i32 {
     let offsets = [0, 1, 2].map(|axis| (p[axis] - centre[axis]).abs());
     let greatest = offsets[0].max(offsets[1]).max(offsets[2]);
     // Less than this, and the greatest offset alone is above the radius. From here on every reduced offset is at most the radius, and the sum fits an i32.

@@ -33,13 +33,55 @@ fn leaf(random: &mut Random) -> Piece {
     }
 }
 
-/// So many leaves, united one after another.
+/// So many leaves, close together, united one after another.
 pub fn leaves(count: usize) -> Vec<Piece> {
     let random = &mut Random::new(40);
-    let mut pieces = vec![leaf(random)];
-    for _ in 1..count {
-        pieces.push(leaf(random));
-        pieces.push(Piece::unite());
+    let leaves: Vec<Piece> = (0..count).map(|_| leaf(random)).collect();
+    chained(&leaves)
+}
+
+/// So many small leaves, spread over all that a picture of 64 by 64 and far 4,095 shows: its rays pass near many, and hit some.
+pub fn spread(count: usize) -> Vec<Piece> {
+    let random = &mut Random::new(41);
+    let mut leaf = || {
+        let centre = [random.range(-30, 94), random.range(-30, 94), random.range(-1_950, 1_950)];
+        if random.percent(50) {
+            Piece::ball(centre, random.range(3, 16))
+        } else {
+            Piece::cuboid(centre, centre.map(|c| c + random.range(4, 24)))
+        }
+    };
+    (0..count).map(|_| leaf()).collect()
+}
+
+/// The leaves, united one after another.
+pub fn chained(leaves: &[Piece]) -> Vec<Piece> {
+    let united = |leaf: &Piece| [leaf.clone(), Piece::unite()];
+    leaves[..1].iter().cloned().chain(leaves[1..].iter().flat_map(united)).collect()
+}
+
+/// The leaves, united half with half.
+pub fn balanced(leaves: &[Piece]) -> Vec<Piece> {
+    if leaves.len() == 1 {
+        return leaves.to_vec();
+    }
+    let (front, back) = leaves.split_at(leaves.len() / 2);
+    [balanced(front), balanced(back), vec![Piece::unite()]].concat()
+}
+
+/// The leaves, united one after another, each fourth thickened and another fourth shifted.
+pub fn layered(leaves: &[Piece]) -> Vec<Piece> {
+    let mut pieces = Vec::new();
+    for (at, leaf) in leaves.iter().enumerate() {
+        pieces.push(leaf.clone());
+        match at % 4 {
+            1 => pieces.push(Piece::shift([3, -2, 5])),
+            3 => pieces.push(Piece::thicken(2)),
+            _ => {}
+        }
+        if at > 0 {
+            pieces.push(Piece::unite());
+        }
     }
     pieces
 }

@@ -1,6 +1,7 @@
-//! `picture WHICH`: writes a fixed input. WHICH is `largest`, or `leaves N` or `nodes N` for a picture of 64 by 64 over so many.
+//! `picture WHICH`: writes a fixed input. WHICH is `largest`, or `leaves N`, `spread N`, `balanced N`, `layered N` or `nodes N` for a picture of 64 by 64 over
+//! so many.
 
-use bench::pictures::{largest, leaves, picture, scene};
+use bench::pictures::{balanced, chained, largest, layered, leaves, picture, scene, spread};
 use std::io::Write;
 
 fn main() -> std::io::Result<()> {
@@ -9,6 +10,9 @@ fn main() -> std::io::Result<()> {
     let input = match words[..] {
         ["largest"] => largest(),
         ["leaves", count] => picture(64, 64, 4_095, leaves(number(count))),
+        ["spread", count] => picture(64, 64, 4_095, chained(&spread(number(count)))),
+        ["balanced", count] => picture(64, 64, 4_095, balanced(&spread(number(count)))),
+        ["layered", count] => picture(64, 64, 4_095, layered(&spread(number(count)))),
         ["nodes", count] => picture(64, 64, 1_023, scene(number(count))),
         _ => usage(),
     };
@@ -20,6 +24,6 @@ fn number(text: &str) -> usize {
 }
 
 fn usage() -> ! {
-    eprintln!("picture largest, or picture leaves N, or picture nodes N");
+    eprintln!("picture largest, or picture leaves N, spread N, balanced N, layered N or nodes N");
     std::process::exit(2)
 }

@@ -1,6 +1,7 @@
-//! `walkcheck N SEED`: makes N inputs and compares each accepted one's image with the plain walk, pixel by pixel.
+//! `walkcheck N SEED`: makes N inputs and compares each accepted one's image with the plain walk, pixel by pixel, and each flat one's output with those of the
+//! flat walk and marches.
 
-use bench::{gen, model, walk};
+use bench::{alike_but_probes, flat, gen, kit, model, walk};
 use std::process::exit;
 
 fn main() {
@@ -10,7 +11,7 @@ fn main() {
         eprintln!("walkcheck N SEED");
         exit(2);
     };
-    let (mut images, mut hits, mut misses, mut probes) = (0u64, 0u64, 0u64, 0u64);
+    let (mut images, mut hits, mut misses, mut probes, mut flats) = (0u64, 0u64, 0u64, 0u64, 0u64);
     for index in 0..inputs {
         let bytes = gen::input(seed, index);
         let output = model::render(&bytes);
@@ -33,10 +34,25 @@ fn main() {
             *(if depth.is_some() { &mut hits } else { &mut misses }) += 1;
             probes += u64::from(word & 0xFFFF);
         }
+        let flat = flat_alike(&bytes, &output);
+        same &= flat != Some(false);
+        flats += u64::from(flat.is_some());
         if !same {
             println!("differs: seed {seed}, index {index}\ninput {}\nimage {}\nwalk {depths:?}", bench::hex(&bytes), bench::hex(&output));
             exit(1);
         }
     }
-    println!("{inputs} inputs, {images} images: {hits} hits and {misses} misses, {probes} probes, all as walked");
+    println!("{inputs} inputs, {images} images, {flats} of them flat: {hits} hits and {misses} misses, {probes} probes, all as walked");
+}
+
+/// Whether the flat walk and both flat marches draw the image; None where the scene is not flat.
+fn flat_alike(input: &[u8], image: &[u8]) -> Option<bool> {
+    let mut output = [0; kit::MOST_OUTPUT];
+    let length = flat::walk_into(input, &mut output)?;
+    let mut same = alike_but_probes(&output[..length], image);
+    for march_into in [flat::march_into, flat::march_eights_into] {
+        let length = march_into(input, &mut output)?;
+        same &= output[..length] == *image;
+    }
+    Some(same)
 }
