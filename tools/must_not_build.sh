@@ -1,8 +1,8 @@
 #!/usr/bin/env bash
 # What must not build: a meet, a cap or a surface that is thickened, a depth read from a ray that still marches, a step of a ray
-# that has settled. Each case is a tiny program, beside a twin that differs in a single type and does build. The compiler's front end
-# reads both with the repository's crates as they stand, proving nothing, and a case must be refused by the error that is named here.
-# A line says how each case went; the status is 1 if any went otherwise.
+# that has settled, a view whose numbers are written. Each case is a tiny program, beside a twin that differs in a type or a
+# statement and does build. The compiler's front end reads both with the repository's crates as they stand, proving nothing, and a
+# case must be refused by the error that is named here. A line says how each case went; the status is 1 if any went otherwise.
 set -eu
 root=$(cd "$(dirname "$0")/.." && pwd)
 kit=$(dirname "$(rt doc)")
@@ -80,6 +80,19 @@ fn main() {}
 END
 }
 
+writing() { # STATEMENT: one that a view is at hand for
+    cat <<END
+use march::view::*;
+
+pub fn seen(mut view: View) -> View {
+    $1;
+    view
+}
+
+fn main() {}
+END
+}
+
 bound=unsatisfied-bound
 method=unknown-method
 
@@ -107,6 +120,8 @@ if [ -f "$root/crates/march/src/rays.rt" ]; then
     builds "a depth read from a settled ray" < <(asking Settled 'depth()')
     refused "a depth read from a marching ray" $method 'no method named `depth` found for type `Marching`' < <(asking Marching 'depth()')
     builds "a step of a marching ray" < <(asking Marching 'step(solid)')
+    builds "a view made blank" < <(writing 'view = View::blank()')
+    refused "a view made wider than its numbers" private-field 'width' < <(writing 'view.width = 65')
     refused "a step of a settled ray" $method 'no method named `step` found for type `Settled`' < <(asking Settled 'step(solid)')
 else
     echo "there are no rays in the crate march: their cases are not tried"
