@@ -35,7 +35,7 @@ pub struct SurfaceSize {
 }
 
 impl SurfaceSize {
-    /// The size of that width and depth, each in 1..=64, where there is room for so many heights.
+    /// The size of those sides; refused with 13 outside 1..=64, then with 18 for too few heights.
     pub fn for_room(width: i32, depth: i32, room: usize) -> Result<SurfaceSize, SurfaceFault>
         ensures { result ≡ size_made width depth room }
     {
@@ -83,8 +83,8 @@ pub struct Sheet<'a> {
 }
 
 impl<'a> Sheet<'a> {
-    /// The sheet of that width and depth, each in 1..=64, over the first heights, one for each column.
-    /// Every 16-bit number is a height; fewer than columns are refused.
+    /// The sheet of that width and depth over the first heights, one for each column, whatever they are.
+    /// Refused with 13 where a side is outside 1..=64, then with 18 for fewer heights than columns.
     pub fn check(width: i32, depth: i32, heights: &'a [i16]) -> Result<Sheet<'a>, SurfaceFault>
         ensures { result_map_both (λ (s : Sheet). (s.size, s.heights.now)) (λ e. e) result ≡ sheet_made width depth heights.now }
     {

@@ -15,7 +15,7 @@ pub struct Deep<'a, S: Solid> {
 }
 
 impl<'a, S: Solid> Deep<'a, S> {
-    /// That solid, where its reach is at least 32,767.
+    /// That solid; refused, with 16, where its reach is under 32,767.
     pub fn of(solid: &'a S) -> Result<Deep<'a, S>, StepFault>
         ensures { MatchResult result (λ deep. deep.solid.now ≡ solid.now) (λ _. (S.Solid.body solid.now).reach < 32767) }
     {

@@ -29,8 +29,8 @@ impl<'a> Plate<'a> {
         }
     }
 
-    /// Opens the plate anew, with a marching record for each pixel of the view. Refused, it leaves
-    /// the plate as it was.
+    /// Opens the plate anew, with a marching record for each pixel of the view. Refused as the view is,
+    /// then with 18 for fewer records than pixels, it leaves the plate as it was.
     pub fn open(&mut self, numbers: ViewNumbers) -> Result<(), PlateFault>
         ensures value { (result, plain_view self.new.view, self.new.records.now) ≡ opening numbers (plain_view self.old.view) self.old.records.now }
         ensures begins { MatchResult result (λ _. pixels self.new.view self.new.records.now ≡ stands self.new.view []) (λ _. self.new ≡ self.old) }
@@ -47,8 +47,8 @@ impl<'a> Plate<'a> {
         Ok(())
     }
 
-    /// Steps the marching pixels row by row, each until it settles, and stops the moment the budget
-    /// is spent. The probes that it spent, and the pixels that still march.
+    /// Steps the marching pixels row by row, each until it settles, and stops once the budget is spent.
+    /// The probes spent, and the pixels that still march. Refused, with 16, over a reach under 32,767.
     pub fn sweep<S: Solid>(&mut self, solid: &S, budget: u32) -> Result<(u32, u32), PlateFault>
         ensures line { (counts_of result, self.new.records.now) ≡ done self.old.view self.old.records.now (sweeping (S.Solid.body solid.now) budget) }
         ensures promise { Promise self.old.view self.old.records.now self.new.records.now (sweeping (S.Solid.body solid.now) budget) }
@@ -63,8 +63,8 @@ impl<'a> Plate<'a> {
         Ok((spent, left))
     }
 
-    /// Steps one pixel until it settles or the budget is spent. The probes that it spent, and 1 while the
-    /// pixel marches, else 0: the pixels that still march, as a sweep counts them.
+    /// Steps one pixel until it settles or the budget is spent. The probes spent, and 1 while the pixel
+    /// marches, else 0. Refused with 19 for no such pixel, then with 16 over a reach under 32,767.
     pub fn touch<S: Solid>(
         &mut self,
         i: u32,
@@ -86,7 +86,7 @@ impl<'a> Plate<'a> {
         Ok((spent, u32::from(is_marching(*pixel))))
     }
 
-    /// The state of one pixel.
+    /// The state of one pixel; refused, with 19, where the view has no such pixel.
     pub fn read(&self, i: u32, j: u32) -> Result<Pixel, PlateFault>
         ensures line { (state_of result, self.now.records.now) ≡ done self.now.view self.now.records.now (reading i j) }
         ensures promise { Promise self.now.view self.now.records.now self.now.records.now (reading i j) }
@@ -95,7 +95,7 @@ impl<'a> Plate<'a> {
         Ok(self.records[place])
     }
 
-    /// Writes the image, once every pixel has settled, and answers its length in bytes.
+    /// Writes the image; its length. Refused with 20 while a pixel marches, then with 21 for no room.
     pub fn write(&self, out: &mut [u8]) -> Result<usize, PlateFault>
         ensures line { (bytes_of result out.new, out.new) ≡ written self.now.view self.now.records.now out.old }
         ensures promise { Promise self.now.view self.now.records.now self.now.records.now (writing (length out.old)) }

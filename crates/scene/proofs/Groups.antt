@@ -34,11 +34,11 @@ module _ (P : Part → Type 0) (k : ℕ) (xs ys : List Part) (lx : k ≤ length 
       let all = All-from_get_or P (take k xs) d (λ j b. let c : j < k = omega (arith, length-take-le k xs lx) in subst⁻¹ P (get_or-take k xs j d c) (h j d c)) in
       subst P (get_or-take k ys i d l) (All-get_or P (take k ys) i d (omega (arith, length-take-le k ys ly)) (All-permutation P (take k xs) (take k ys) same all))
 
-pub parts_moved : (ns : List Node) (n : ℕ) (xs ys : List Part) (k : ℕ) → k ≤ length xs → IsPermutation (take k xs) (take k ys) → AreParts ns n xs k → AreParts ns n ys k
-parts_moved ns n xs ys k lx same s = record {
+pub parts_moved : (ns : List Node) (n : ℕ) (xs ys : List Part) (k j : ℕ) → k ≤ length xs → j ≡ k → IsPermutation (take k xs) (take k ys) → AreParts ns n xs k → AreParts ns n ys j
+parts_moved ns n xs ys k j lx count same s = rw count (record {
   each = each_moved (λ x. IsPart ns n x.end) k xs ys lx ly same s.each;
   all = λ p m found. s.all p m (each_moved (λ x. m ≤ (last_body ns x.end).clear p) k ys xs ly lx (IsPermutation-sym (take k xs) (take k ys) same) found);
-}
+})
   where
     ly : k ≤ length ys
     ly = omega (arith, length-take k ys, length_permutation (take k xs) (take k ys) same, length-take-le k xs lx)

@@ -40,8 +40,8 @@ impl fmt::Display for PutFault {
     }
 }
 
-/// Writes word k of the bytes, the least significant byte first; where they have no word k, nothing is
-/// written.
+/// Writes word k of the bytes, the least significant byte first. Refused, with 21, where they have no
+/// word k, and then nothing is written.
 pub fn put(out: &mut [u8], k: usize, word: u32) -> Result<(), PutFault>
     ensures { (result, out.new) ≡ word_put k word out.old }
 {

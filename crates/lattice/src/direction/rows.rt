@@ -85,8 +85,8 @@ fn way(k: usize) -> Direction
 }
 
 impl Direction {
-    /// The direction of the row that the number at this place names; none is named outside 0..26,
-    /// nor at 13, which does not move.
+    /// The direction of the row that the number at this place names. Refused, with 5 at that place,
+    /// outside 0..=26, and at 13, which does not move.
     pub fn of_row(n: i32, place: u32) -> Result<Direction, NoRow>
         ensures value { parts result ≡ row_answer n place }
         ensures rule { TableRule }

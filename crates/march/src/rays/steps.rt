@@ -56,7 +56,7 @@ impl Ray {
 }
 
 impl Marching {
-    /// The ray of pixel (i, j) of a view, as it is made: at its start, with no probe.
+    /// The ray of pixel (i, j), at its start; refused as the view is, then with 19 for no such pixel.
     pub fn new(numbers: ViewNumbers, i: u32, j: u32) -> Result<Marching, RayFault>
         ensures { ray_in result ≡ ray_answer numbers i j }
     {
@@ -97,8 +97,8 @@ impl Marching {
         }
     }
 
-    /// One step: it asks the solid at its tip, and then it has settled or marches on. A solid of too
-    /// small a reach is refused, and the ray handed back as it was.
+    /// One step: it asks the solid at its tip, and then it has settled or marches on. Refused, with 16,
+    /// over a solid of a reach under 32,767, it hands the ray back as it was.
     pub fn step<S: Solid>(self, solid: &S) -> Result<Stepped, (StepFault, Marching)>
         ensures { step_in result ≡ step_answer (S.Solid.body solid.now) self }
     {
@@ -122,7 +122,7 @@ impl Marching {
         }
     }
 
-    /// Steps until it settles. A solid of too small a reach is refused, and the ray handed back as it was.
+    /// Steps until it settles. Refused, with 16, over a reach under 32,767, it hands the ray back.
     pub fn settle<S: Solid>(self, solid: &S) -> Result<Settled, (StepFault, Marching)>
         ensures value { settle_in result ≡ settle_answer (S.Solid.body solid.now) self }
         ensures law { ContactIn (S.Solid.body solid.now) self result }

@@ -43,7 +43,7 @@ impl View {
         i < self.width && j < self.height
     }
 
-    /// The place of pixel (i, j) among the pixels, row by row.
+    /// The place of pixel (i, j), row by row; refused, with 19, where the view has no such pixel.
     pub fn place_of(&self, i: u32, j: u32) -> Result<usize, PixelFault>
         ensures { result ≡ place_answer self.now i j }
     {
@@ -61,7 +61,7 @@ impl View {
         moved(moved(self.origin, i, self.across), j, self.down)
     }
 
-    /// The ray of pixel (i, j).
+    /// The ray of pixel (i, j); refused, with 19, where the view has no such pixel.
     pub fn ray_of(&self, i: u32, j: u32) -> Result<Ray, PixelFault>
         ensures { line_in result ≡ line_answer self.now i j }
     {
