@@ -69,7 +69,7 @@ END
 
 asking() { # TYPE CALL: that call on a ray of that type
     cat <<END
-use march::rays::*;
+use march::*;
 use solid::*;
 
 pub fn asked<S: Solid>(ray: $1, solid: &S) {
@@ -82,7 +82,7 @@ END
 
 writing() { # STATEMENT: one that a view is at hand for
     cat <<END
-use march::view::*;
+use march::*;
 
 pub fn seen(mut view: View) -> View {
     $1;
@@ -105,27 +105,19 @@ refused "a thickened meet" $bound '`Meet<S, T>: Exact`' < <(thickening 'Meet<S, 
 refused "a thickened cap" $bound '`Cap<S>: Exact`' < <(thickening 'Cap<S>')
 refused "a thickened unite with a meet in it" $bound '`Meet<S, T>: Exact`' < <(thickening 'Unite<S, Meet<S, T>>')
 
-if [ -d "$root/crates/leaves" ]; then
-    libraries leaves
-    builds "a thickened ball" < <(thickening Ball 'use leaves::ball::*;')
-    builds "a thickened box" < <(thickening AxisBox 'use leaves::axis_box::*;')
-    refused "a thickened surface" $bound '`Surface: Exact`' < <(thickening "Surface<'a>" 'use leaves::surface::*;')
-else
-    echo "there is no crate leaves: its cases are not tried"
-fi
+libraries leaves
+builds "a thickened ball" < <(thickening Ball 'use leaves::*;')
+builds "a thickened box" < <(thickening AxisBox 'use leaves::*;')
+refused "a thickened surface" $bound '`Surface: Exact`' < <(thickening "Surface<'a>" 'use leaves::*;')
 
-if [ -f "$root/crates/march/src/rays.rt" ]; then
-    own=()
-    libraries march
-    builds "a depth read from a settled ray" < <(asking Settled 'depth()')
-    refused "a depth read from a marching ray" $method 'no method named `depth` found for type `Marching`' < <(asking Marching 'depth()')
-    builds "a step of a marching ray" < <(asking Marching 'step(solid)')
-    builds "a view made blank" < <(writing 'view = View::blank()')
-    refused "a view made wider than its numbers" private-field 'width' < <(writing 'view.width = 65')
-    refused "a step of a settled ray" $method 'no method named `step` found for type `Settled`' < <(asking Settled 'step(solid)')
-else
-    echo "there are no rays in the crate march: their cases are not tried"
-fi
+own=()
+libraries march
+builds "a depth read from a settled ray" < <(asking Settled 'depth()')
+refused "a depth read from a marching ray" $method 'no method named `depth` found for type `Marching`' < <(asking Marching 'depth()')
+builds "a step of a marching ray" < <(asking Marching 'step(solid)')
+builds "a view made blank" < <(writing 'view = View::blank()')
+refused "a view made wider than its numbers" private-field 'width' < <(writing 'view.width = 65')
+refused "a step of a settled ray" $method 'no method named `step` found for type `Settled`' < <(asking Settled 'step(solid)')
 
 echo "what must not build: $tried tried, $surprises surprises"
 [ "$surprises" = 0 ]

@@ -4,17 +4,17 @@ use mathlib.Core.Path.{subst⁻¹}
 use Rattle.lattice.specs.declared.Point.{Point}
 use Rattle.lattice.specs.Space.{In}
 use Rattle.solid.specs.Body.{Body, Lawful}
-use Rattle.geometry.specs.Pile.Pile.{lawful}
+use Rattle.piles.specs.Pile.Pile.{lawful}
 use Rattle.march.specs.declared.pixel.Pixel.{Pixel}
 use Rattle.march.specs.declared.view.View.{View}
 use Rattle.march.specs.declared.view.ViewNumbers.{ViewNumbers}
 use Rattle.march.specs.March.{marches, probes}
 use Rattle.march.specs.Checks.{plain_view, view_answer}
 use Rattle.plate_log.specs.declared.fault.PlateFault.{PlateFault}
-use Rattle.plate_log.specs.Sweep.{past}
-use Rattle.plate_log.specs.Log.{Call, Answer, sweeping, reading, counted, told, line, done, log, opened, pixels, state_of, area, place, pixel, stands}
-use Rattle.plate_log.specs.Fair.{Inside}
-use Rattle.plate_log.specs.Law.{Same, Shows, Piled, Brought, Held, Promise, budgets}
+use Rattle.plate_log.specs.Sweep.{past_the_end}
+use Rattle.plate_log.specs.Log.{Call, Answer, sweeping, reading, counted, read_as, line_of, line_on_records, log, new_pixels, pixels_of, read_answer, area, place_of, pixel_after, pixels_after}
+use Rattle.plate_log.specs.Lines.{Inside}
+use Rattle.plate_log.specs.Law.{Same, PixelShows, Piled, Brought, LogHolds, Promise, sweep_budgets}
 use Rattle.plate_log.proofs.Sanity.{none_marching}
 use Rattle.plate_log.proofs.Bring.{carried, told_is}
 use Rattle.plate_log.proofs.Sums.{asked}
@@ -35,26 +35,26 @@ module _ (v : View) (a b : Body) (m n i j : ℕ) where
   both = A ∷ B ∷ []
 
   only : (x : Body) (P : Body → Type 0) → P a → P b → Brought x (log v both) → P x
-  only x P pa pb h = elim (carried v x both (opened v) h) [ inl e ↦ subst⁻¹ P e pa | inr r ↦ elim r [ inl e ↦ subst⁻¹ P e pb | inr z ↦ absurd z ] ]
+  only x P pa pb h = elim (carried v x both (new_pixels v) h) [ inl e ↦ subst⁻¹ P e pa | inr r ↦ elim r [ inl e ↦ subst⁻¹ P e pb | inr z ↦ absurd z ] ]
 
-  budgets_are : (s t : ℕ × ℕ) → (line v (opened v) A).0 ≡ counted s.0 s.1 → (line v (stands v (A ∷ [])) B).0 ≡ counted t.0 t.1 → budgets (log v both) ≡ m + n
+  budgets_are : (s t : ℕ × ℕ) → (line_of v (new_pixels v) A).0 ≡ counted s.0 s.1 → (line_of v (pixels_after v (A ∷ [])) B).0 ≡ counted t.0 t.1 → sweep_budgets (log v both) ≡ m + n
   budgets_are s t e f =
-      let x : asked A (line v (opened v) A).0 ≡ m = ap (asked A) e in
-      let y : asked B (line v (stands v (A ∷ [])) B).0 ≡ n = ap (asked B) f in
-      ap (λ (k : ℕ). k + (asked B (line v (stands v (A ∷ [])) B).0 + 0)) x ∙ ap (λ (k : ℕ). m + (k + 0)) y ∙ omega arith
+      let x : asked A (line_of v (new_pixels v) A).0 ≡ m = ap (asked A) e in
+      let y : asked B (line_of v (pixels_after v (A ∷ [])) B).0 ≡ n = ap (asked B) f in
+      ap (λ (k : ℕ). k + (asked B (line_of v (pixels_after v (A ∷ [])) B).0 + 0)) x ∙ ap (λ (k : ℕ). m + (k + 0)) y ∙ omega arith
 
   pub pictured : (r0 r1 r2 : List Pixel) (s t : ℕ × ℕ) (q : Pixel) → Lawful a → Lawful b
-      → pixels v r0 ≡ stands v []
-      → ◌≡◌ {A = Answer × List Pixel} (counted s.0 s.1, r1) (done v r0 A)
-      → ◌≡◌ {A = Answer × List Pixel} (counted t.0 t.1, r2) (done v r1 B)
+      → pixels_of v r0 ≡ pixels_after v []
+      → ◌≡◌ {A = Answer × List Pixel} (counted s.0 s.1, r1) (line_on_records v r0 A)
+      → ◌≡◌ {A = Answer × List Pixel} (counted t.0 t.1, r2) (line_on_records v r1 B)
       → Promise v r0 r1 A → Promise v r1 r2 B
-      → ◌≡◌ {A = Answer × List Pixel} (told q, r2) (done v r2 (reading i j))
+      → ◌≡◌ {A = Answer × List Pixel} (read_as q, r2) (line_on_records v r2 (reading i j))
       → Picture v a b m n i j q
   pictured r0 r1 r2 s t q la lb new l1 l2 p1 p2 l3 = record {
     within = is.0;
     is = same;
-    ended = λ h. subst⁻¹ (λ (r : Pixel). marches r ≡ false) same (none_marching (stands v both) (place v i j) (held.ends (subst⁻¹ (λ (k : ℕ). area v * (v.far + 1) ≤ k) given h)));
-    shows = λ M sa sb. subst⁻¹ (Shows v M i j) same ((held.shown M (told_all M sa sb)).shows i j is.0);
+    ended = λ h. subst⁻¹ (λ (r : Pixel). marches r ≡ false) same (none_marching (pixels_after v both) (place_of v i j) (held.ends (subst⁻¹ (λ (k : ℕ). area v * (v.far + 1) ≤ k) given h)));
+    shows = λ M sa sb. subst⁻¹ (PixelShows v M i j) same ((held.shown M (told_all M sa sb)).shows i j is.0);
     fewest = λ M sa sb settled r lr deep sr under k takes.
         subst⁻¹ (λ (x : Pixel). probes x ≤ k) same
         ((held.shown M (told_all M sa sb)).fewest i j is.0 (subst (λ (x : Pixel). marches x ≡ false) same settled) r
@@ -62,44 +62,44 @@ module _ (v : View) (a b : Body) (m n i j : ℕ) where
         k takes);
   }
     where
-      one : (pixels v r1 ≡ stands v (A ∷ [])) × Held v (A ∷ [])
+      one : (pixels_of v r1 ≡ pixels_after v (A ∷ [])) × LogHolds v (A ∷ [])
       one = p1 [] new
 
-      two : (pixels v r2 ≡ stands v both) × Held v both
+      two : (pixels_of v r2 ≡ pixels_after v both) × LogHolds v both
       two = p2 (A ∷ []) one.0
 
-      held : Held v both
+      held : LogHolds v both
       held = two.1
 
-      is : Inside v i j × (q ≡ get_or (pixels v r2) (place v i j) past)
-      is = told_is v (pixels v r2) i j q (sym (ap (λ (x : Answer × List Pixel). x.0) l3))
+      is : Inside v i j × (q ≡ get_or (pixels_of v r2) (place_of v i j) past_the_end)
+      is = told_is v (pixels_of v r2) i j q (sym (ap (λ (x : Answer × List Pixel). x.0) l3))
 
-      same : q ≡ pixel v both i j
-      same = is.1 ∙ ap (λ (ps : List Pixel). get_or ps (place v i j) past) two.0
+      same : q ≡ pixel_after v both i j
+      same = is.1 ∙ ap (λ (ps : List Pixel). get_or ps (place_of v i j) past_the_end) two.0
 
       told_all : (M : Point → Bool) → Same a.member M → Same b.member M → (x : Body) → Brought x (log v both) → Piled M x
       told_all M sa sb x h = only x (Piled M) (piled M a la sa) (piled M b lb sb) h
 
-      given : budgets (log v both) ≡ m + n
+      given : sweep_budgets (log v both) ≡ m + n
       given = budgets_are s t
-          (sym (ap (λ (x : Answer × List Pixel). x.0) l1 ∙ ap (λ (ps : List Pixel). (line v ps A).0) new))
-          (sym (ap (λ (x : Answer × List Pixel). x.0) l2 ∙ ap (λ (ps : List Pixel). (line v ps B).0) one.0))
+          (sym (ap (λ (x : Answer × List Pixel). x.0) l1 ∙ ap (λ (ps : List Pixel). (line_of v ps A).0) new))
+          (sym (ap (λ (x : Answer × List Pixel). x.0) l2 ∙ ap (λ (ps : List Pixel). (line_of v ps B).0) one.0))
 
 -- the same, with each call's own view
 pub chained : (v v1 v2 : View) → v1 ≡ v → v2 ≡ v1 → (numbers : ViewNumbers) → Ok (plain_view v) ≡ view_answer numbers
     → (a b : Body) (m n i j : ℕ) (r0 r1 r2 : List Pixel) (s t : ℕ × ℕ) (r : Result Pixel PlateFault) → Lawful a → Lawful b
-    → pixels v r0 ≡ stands v []
-    → ◌≡◌ {A = Answer × List Pixel} (counted s.0 s.1, r1) (done v r0 (sweeping a m))
-    → ◌≡◌ {A = Answer × List Pixel} (counted t.0 t.1, r2) (done v1 r1 (sweeping b n))
+    → pixels_of v r0 ≡ pixels_after v []
+    → ◌≡◌ {A = Answer × List Pixel} (counted s.0 s.1, r1) (line_on_records v r0 (sweeping a m))
+    → ◌≡◌ {A = Answer × List Pixel} (counted t.0 t.1, r2) (line_on_records v1 r1 (sweeping b n))
     → Promise v r0 r1 (sweeping a m) → Promise v1 r1 r2 (sweeping b n)
-    → ◌≡◌ {A = Answer × List Pixel} (state_of r, r2) (done v2 r2 (reading i j))
+    → ◌≡◌ {A = Answer × List Pixel} (read_answer r, r2) (line_on_records v2 r2 (reading i j))
     → IfOk r (λ q. (v : View) × (Ok (plain_view v) ≡ view_answer numbers) × Picture v a b m n i j q)
 chained v v1 v2 e1 e2 numbers is a b m n i j r0 r1 r2 s t (Err f) la lb new l1 l2 p1 p2 l3 = tt
 chained v v1 v2 e1 e2 numbers is a b m n i j r0 r1 r2 s t (Ok q) la lb new l1 l2 p1 p2 l3 = (
   v,
   is,
   pictured v a b m n i j r0 r1 r2 s t q la lb new l1
-      (subst (λ (u : View). ◌≡◌ {A = Answer × List Pixel} (counted t.0 t.1, r2) (done u r1 (sweeping b n))) e1 l2) p1
+      (subst (λ (u : View). ◌≡◌ {A = Answer × List Pixel} (counted t.0 t.1, r2) (line_on_records u r1 (sweeping b n))) e1 l2) p1
       (subst (λ (u : View). Promise u r1 r2 (sweeping b n)) e1 p2)
-      (subst (λ (u : View). ◌≡◌ {A = Answer × List Pixel} (told q, r2) (done u r2 (reading i j))) (e2 ∙ e1) l3),
+      (subst (λ (u : View). ◌≡◌ {A = Answer × List Pixel} (read_as q, r2) (line_on_records u r2 (reading i j))) (e2 ∙ e1) l3),
 )

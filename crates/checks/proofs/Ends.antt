@@ -5,12 +5,12 @@ use Rattle.std.specs.Result.{result_and, result_map_both}
 use Rattle.solid.specs.Body.{Body}
 use Rattle.march.specs.declared.pixel.Pixel.{Pixel}
 use Rattle.march.specs.declared.view.View.{View}
-use Rattle.march.specs.declared.view.ViewFault.{ViewFault}
+use Rattle.march.specs.declared.fault.ViewFault.{ViewFault}
 use Rattle.march.specs.declared.view.ViewNumbers.{ViewNumbers}
 use Rattle.march.specs.Checks.{PlainView, plain_view, view_answer}
 use Rattle.plate_log.specs.declared.fault.PlateFault.{PlateFault}
 use Rattle.plate_log.specs.Opening.{Opened, opened_by, opening}
-use Rattle.plate_log.specs.Log.{Answer, sweeping, reading, counted, told, wrote, refused, done, deep, has, counts_of, state_of}
+use Rattle.plate_log.specs.Log.{Answer, sweeping, reading, counted, read_as, wrote, refused, line_on_records, is_deep, has_pixel, sweep_answer, read_answer}
 use Rattle.checks.specs.Chained.{refusal, opens, sweeps, reads, ends}
 
 -- f of either is either of f
@@ -19,15 +19,15 @@ chosen f b x y = cond_both b x y (λ z. f z ≡ cond b (f x) (f y)) (λ h. sym (
 
 abbrev refusal_in : Answer → Result (Unit {0}) PlateFault
 refusal_in (counted s m) = Ok tt
-refusal_in (told p) = Ok tt
+refusal_in (read_as p) = Ok tt
 refusal_in (wrote n bs) = Ok tt
 refusal_in (refused e) = Err e
 
-counted_is : (r : Result (ℕ × ℕ) PlateFault) → refusal r ≡ refusal_in (counts_of r)
+counted_is : (r : Result (ℕ × ℕ) PlateFault) → refusal r ≡ refusal_in (sweep_answer r)
 counted_is (Ok x) = refl
 counted_is (Err e) = refl
 
-told_is : (r : Result Pixel PlateFault) → refusal r ≡ refusal_in (state_of r)
+told_is : (r : Result Pixel PlateFault) → refusal r ≡ refusal_in (read_answer r)
 told_is (Ok x) = refl
 told_is (Err e) = refl
 
@@ -42,11 +42,11 @@ opened_ends numbers old w rs qs r e = ap left e ∙ by (view_answer numbers)
     by (Err f) = refl
     by (Ok v) = chosen left (ltb (length rs) (v.width * v.height)) _ _
 
-pub swept_ends : (v : View) (rs qs : List Pixel) (b : Body) (m : ℕ) (r : Result (ℕ × ℕ) PlateFault) → ◌≡◌ {A = Answer × List Pixel} (counts_of r, qs) (done v rs (sweeping b m)) → refusal r ≡ sweeps b
-swept_ends v rs qs b m r e = counted_is r ∙ ap (λ (x : Answer × List Pixel). refusal_in x.0) e ∙ chosen (λ (x : Answer × List Pixel). refusal_in x.0) (deep b) _ _
+pub swept_ends : (v : View) (rs qs : List Pixel) (b : Body) (m : ℕ) (r : Result (ℕ × ℕ) PlateFault) → ◌≡◌ {A = Answer × List Pixel} (sweep_answer r, qs) (line_on_records v rs (sweeping b m)) → refusal r ≡ sweeps b
+swept_ends v rs qs b m r e = counted_is r ∙ ap (λ (x : Answer × List Pixel). refusal_in x.0) e ∙ chosen (λ (x : Answer × List Pixel). refusal_in x.0) (is_deep b) _ _
 
-pub read_ends : (v : View) (rs qs : List Pixel) (i j : ℕ) (r : Result Pixel PlateFault) → ◌≡◌ {A = Answer × List Pixel} (state_of r, qs) (done v rs (reading i j)) → refusal r ≡ reads (plain_view v) i j
-read_ends v rs qs i j r e = told_is r ∙ ap (λ (x : Answer × List Pixel). refusal_in x.0) e ∙ chosen (λ (x : Answer × List Pixel). refusal_in x.0) (has v i j) _ _
+pub read_ends : (v : View) (rs qs : List Pixel) (i j : ℕ) (r : Result Pixel PlateFault) → ◌≡◌ {A = Answer × List Pixel} (read_answer r, qs) (line_on_records v rs (reading i j)) → refusal r ≡ reads (plain_view v) i j
+read_ends v rs qs i j r e = told_is r ∙ ap (λ (x : Answer × List Pixel). refusal_in x.0) e ∙ chosen (λ (x : Answer × List Pixel). refusal_in x.0) (has_pixel v i j) _ _
 
 -- where the calls come to an end
 module _ (o : Result PlainView PlateFault) (a b : Body) (i j : ℕ) (r : Result Pixel PlateFault) where

@@ -6,14 +6,14 @@ use Rattle.lattice.specs.Space.{In}
 use Rattle.solid.specs.Body.{Body, Lawful}
 use Rattle.march.specs.declared.pixel.Pixel.{Pixel}
 use Rattle.march.specs.declared.view.View.{View}
-use Rattle.march.specs.declared.view.ViewFault.{ViewFault}
+use Rattle.march.specs.declared.fault.ViewFault.{ViewFault}
 use Rattle.march.specs.Checks.{PlainView, plain_view}
 use Rattle.march.specs.March.{marches, probes, Takes}
 use Rattle.plate_log.specs.declared.fault.PlateFault.{PlateFault}
 use Rattle.plate_log.specs.declared.fault.PlateFault.TheVariants.{View as Number, TooFewRecords, NoPixel, Shallow}
-use Rattle.plate_log.specs.Log.{Call, area, clear_at, deep, sweeping, stands, pixel}
-use Rattle.plate_log.specs.Fair.{Inside}
-use Rattle.plate_log.specs.Law.{Same, Shows}
+use Rattle.plate_log.specs.Log.{Call, area, clear_at, is_deep, sweeping, pixels_after, pixel_after}
+use Rattle.plate_log.specs.Lines.{Inside}
+use Rattle.plate_log.specs.Law.{Same, PixelShows}
 
 -- whether a call was refused, and why
 abbrev pub refusal : {A : Type 0} → Result A PlateFault → Result (Unit {0}) PlateFault
@@ -25,7 +25,7 @@ opens (Err f) n = Err (Number f)
 opens (Ok v) n = cond (nat_lt n (v.width * v.height)) (Err TooFewRecords) (Ok v)
 
 abbrev pub sweeps : Body → Result (Unit {0}) PlateFault
-sweeps b = cond (deep b) (Ok tt) (Err Shallow)
+sweeps b = cond (is_deep b) (Ok tt) (Err Shallow)
 
 abbrev pub reads : PlainView → (i j : ℕ) → Result (Unit {0}) PlateFault
 reads v i j = cond (nat_lt i v.width && nat_lt j v.height) (Ok tt) (Err NoPixel)
@@ -37,23 +37,23 @@ ends (Ok v) a b i j = result_and (sweeps a) (result_and (sweeps b) (reads v i j)
 
 -- the sweeps that are called: a refused one is the last
 abbrev pub sweeps_called : (a b : Body) (m n : ℕ) → List Call
-sweeps_called a b m n = if deep a then sweeping a m ∷ sweeping b n ∷ [] else sweeping a m ∷ []
+sweeps_called a b m n = if is_deep a then sweeping a m ∷ sweeping b n ∷ [] else sweeping a m ∷ []
 
 -- What the records hold at the end. Where there was no opening, all are as they were; else the pixels
 -- are those of the log of the sweeps that were called, and the records past them are as they were.
 abbrev pub RecordsAfter : Result PlainView PlateFault → (a b : Body) (m n : ℕ) (old new : List Pixel) → Type 0
 RecordsAfter (Err e) a b m n old new = new ≡ old
 RecordsAfter (Ok w) a b m n old new =
-    (v : View) × (plain_view v ≡ w) × (new ≡ stands v (sweeps_called a b m n) ++ drop (area v) old)
+    (v : View) × (plain_view v ≡ w) × (new ≡ pixels_after v (sweeps_called a b m n) ++ drop (area v) old)
 
 pub record Picture (v : View) (a b : Body) (m n i j : ℕ) (q : Pixel) : Type 0 where
   pub within : Inside v i j
   -- it is the pixel as the two sweeps leave it, in that order, after the opening
-  pub is : q ≡ pixel v (sweeping a m ∷ sweeping b n ∷ []) i j
+  pub is : q ≡ pixel_after v (sweeping a m ∷ sweeping b n ∷ []) i j
   -- with budgets enough it has settled
   pub ended : area v * (v.far + 1) ≤ m + n → marches q ≡ false
   -- where both have the members M, it tells of them
-  pub shows : (M : Point → Bool) → Same a.member M → Same b.member M → Shows v M i j q
+  pub shows : (M : Point → Bool) → Same a.member M → Same b.member M → PixelShows v M i j q
   -- and took no more probes than a body of the same members that clears no more than either
   pub fewest : (M : Point → Bool) → Same a.member M → Same b.member M → marches q ≡ false
       → (r : Body) → Lawful r → 32767 ≤ r.reach → Same r.member M

@@ -4,31 +4,31 @@ use Rattle.std.specs.Result.{result_and, result_map_both}
 use Rattle.lattice.specs.declared.Point.{Point}
 use Rattle.lattice.specs.Space.{back}
 use Rattle.solid.specs.Body.{Body}
-use Rattle.geometry.specs.Layers.{unite, meet, shift, near, thicken, capped}
-use Rattle.geometry.specs.Pile.{Pile}
+use Rattle.piles.specs.Layers.{unite, meet, shift, near, thicken, cap}
+use Rattle.piles.specs.Pile.{Pile}
 use Rattle.layers.specs.declared.LayerFault.{LayerFault}
-use Rattle.layers.specs.Told.{layer_told}
+use Rattle.layers.specs.Codes.{layer_code}
 use Rattle.layers.specs.Made.{offset_checked, thicken_number, cap_number}
 use Rattle.march.specs.declared.pixel.Pixel.{Pixel}
 use Rattle.march.specs.declared.view.View.{View}
 use Rattle.march.specs.declared.view.ViewNumbers.{ViewNumbers}
 use Rattle.march.specs.Checks.{PlainView, plain_view, view_answer}
 use Rattle.plate_log.specs.declared.fault.PlateFault.{PlateFault}
-use Rattle.plate_log.specs.Told.{plate_told}
-use Rattle.plate_log.specs.Law.{Shows}
-use Rattle.checks.specs.declared.piles.LayerNumbers.{LayerNumbers}
+use Rattle.plate_log.specs.Codes.{plate_code}
+use Rattle.plate_log.specs.Law.{PixelShows}
+use Rattle.checks.specs.declared.pile.LayerNumbers.{LayerNumbers}
 use Rattle.checks.specs.Chained.{Picture, RecordsAfter}
 
 -- its body and, by set algebra, its members
-abbrev pub stacked : LayerNumbers → (moved grown clip : Body) → Body
-stacked n moved grown clip = capped (unsigned_abs n.most) (meet (unite (shift n.by moved) (thicken (unsigned_abs n.thickness) grown)) clip)
+abbrev pub layered : LayerNumbers → (moved grown clip : Body) → Body
+layered n moved grown clip = cap (unsigned_abs n.most) (meet (unite (shift n.by moved) (thicken (unsigned_abs n.thickness) grown)) clip)
 
 abbrev pub members : LayerNumbers → (moved grown clip : Body) → Point → Bool
 members n moved grown clip p = (moved.member (back n.by p) || near (unsigned_abs n.thickness) grown.member p) && clip.member p
 
 -- what was made is that body, and a pile of these members
 pub record IsStacked (n : LayerNumbers) (moved grown clip made : Body) : Type 0 where
-  pub is : made ≡ stacked n moved grown clip
+  pub is : made ≡ layered n moved grown clip
   pub pile : Pile (members n moved grown clip) false made
 
 -- why the making of a layer was refused, if it was
@@ -41,7 +41,7 @@ stack_refusal reach n = result_and (offset_checked reach n.by) (result_and (laye
 
 -- the same of the layers and then the calls of a plate, by number and place
 abbrev pub picture_refusal : Result (Unit {0}) LayerFault → Result (Unit {0}) PlateFault → Result (Unit {0}) (ℕ × ℕ)
-picture_refusal layers calls = result_and (result_map_both (λ u. u) layer_told layers) (result_map_both (λ u. u) plate_told calls)
+picture_refusal layers calls = result_and (result_map_both (λ u. u) layer_code layers) (result_map_both (λ u. u) plate_code calls)
 
 -- What the records hold at the end: where the pile was refused, all are as they were; else they are as two sweeps of it leave them.
 abbrev pub PictureRecords : Result (Unit {0}) LayerFault → (opened : Result PlainView PlateFault) → (pile : Body) → (budget : ℕ) → (old new : List Pixel) → Type 0
@@ -53,7 +53,7 @@ pub record PilePicture (numbers : ViewNumbers) (n : LayerNumbers) (moved grown c
   pub view : View
   pub is_view : Ok (plain_view view) ≡ view_answer numbers
   -- a pile of these members was brought to both
-  pub pile : Pile (members n moved grown clip) false (stacked n moved grown clip)
-  pub picture : Picture view (stacked n moved grown clip) (stacked n moved grown clip) budget budget i j q
+  pub pile : Pile (members n moved grown clip) false (layered n moved grown clip)
+  pub picture : Picture view (layered n moved grown clip) (layered n moved grown clip) budget budget i j q
   -- and the pixel tells of them
-  pub shows : Shows view (members n moved grown clip) i j q
+  pub shows : PixelShows view (members n moved grown clip) i j q

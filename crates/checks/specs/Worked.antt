@@ -4,19 +4,19 @@ use Rattle.std.proofs.Common.{lit≤}
 use Rattle.lattice.specs.declared.Point.{Point}
 use Rattle.lattice.specs.declared.direction.Direction.{Direction}
 use Rattle.solid.specs.Body.{Body}
-use Rattle.geometry.specs.Leaves.{ball, block, surface}
-use Rattle.geometry.specs.Layers.{thicken, capped}
+use Rattle.piles.specs.Leaves.{ball, block, surface}
+use Rattle.piles.specs.Layers.{thicken, cap}
 use Rattle.march.specs.declared.pixel.Pixel.{Pixel}
 use Rattle.march.specs.declared.pixel.Pixel.TheVariants.{Marching, Hit, Miss}
 use Rattle.march.specs.View.{along}
-use Rattle.march.specs.March.{fresh, settled}
+use Rattle.march.specs.March.{new_pixel, settle}
 
 abbrev pub at : (x y z : ℤ) → Point
 at x y z = record { x = x; y = y; z = z }
 
 -- row 12 of the table of directions: straight down
 abbrev pub plumb_down : Direction
-plumb_down = record { x = pos 0; y = pos 0; z = negsuc 0; flat = lit≤ tt; level = lit≤ tt; plumb = lit≤ tt; moves = lit≤ tt }
+plumb_down = record { x = pos 0; y = pos 0; z = negsuc 0; x_in_range = lit≤ tt; y_in_range = lit≤ tt; z_in_range = lit≤ tt; moves = lit≤ tt }
 
 pub data Row : Type 0 where
   clears : Body → Point → ℕ → Row
@@ -35,7 +35,7 @@ same (Miss n) (Miss m) = n == m
 
 abbrev pub holds : Row → Bool
 holds (clears b p c) = b.clear p == c
-holds (ends b start toward far end) = same (settled (λ t. b.clear (along start t toward)) far (far + 1) fresh).0 end
+holds (ends b start toward far end) = same (settle (λ t. b.clear (along start t toward)) far (far + 1) new_pixel).0 end
 
 abbrev pub all_hold : List Row → Bool
 all_hold [] = true
@@ -69,9 +69,9 @@ table =
     ∷ clears sheet (at (pos 1) (pos 0) (pos 2)) 1
     ∷ clears sheet (at (pos 1) (pos 0) (pos 9)) 6
     ∷ from_above stock 100 (Hit 100 2)
-    ∷ from_above (capped 64 stock) 100 (Hit 100 3)
+    ∷ from_above (cap 64 stock) 100 (Hit 100 3)
     ∷ from_above stock 99 (Miss 1)
-    ∷ from_above (capped 64 stock) 99 (Miss 2)
+    ∷ from_above (cap 64 stock) 99 (Miss 2)
     ∷ []
 
 abbrev pub Worked : Type 0

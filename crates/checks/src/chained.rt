@@ -4,10 +4,8 @@ ghost use Rattle.march.specs.declared.view.View.{View};
 ghost use Rattle.march.specs.Checks.{plain_view, view_answer};
 ghost use Rattle.checks.specs.Chained.{Picture, RecordsAfter, refusal, opens, ends};
 
-use march::pixel::Pixel;
-use march::view::ViewNumbers;
-use plate::Plate;
-use plate_log::fault::PlateFault;
+use march::{Pixel, ViewNumbers};
+use plate::{Plate, PlateFault};
 use solid::Solid;
 
 /// Sweeps over one solid and then over another, and reads a pixel. The first of these calls that is

@@ -1,11 +1,10 @@
 //! Pictures of a pile with every layer, over solids of three makes.
-use crate::piles::{LayerNumbers, Parts};
+use crate::pile::{LayerNumbers, Parts};
 use crate::views::straight_down;
 use lattice::Point;
-use leaves::axis_box::AxisBox;
-use leaves::ball::Ball;
-use march::pixel::Pixel;
-use refusal::told::Told;
+use leaves::{AxisBox, Ball};
+use march::Pixel;
+use refusal::RefusalCode;
 use std::test::Fail;
 
 fn raised(z: i32) -> LayerNumbers {
@@ -18,7 +17,7 @@ fn raised(z: i32) -> LayerNumbers {
 
 /// What pixel (i, 0) shows, looking straight down from height 100: a block that is lifted, and beside it
 /// a ball of radius 1 about (9, 0, 0) that is thickened, both clipped.
-fn picture(numbers: LayerNumbers, budget: u32, i: u32) -> Result<Result<Pixel, Told>, Fail> {
+fn picture(numbers: LayerNumbers, budget: u32, i: u32) -> Result<Result<Pixel, RefusalCode>, Fail> {
     let block = AxisBox::new(Point::new(-1, -1, 0), Point::new(1, 1, 0))?;
     let parts = Parts {
         moved: &block,
@@ -65,14 +64,14 @@ fn a_pile_is_pictured(rt: HostRuntime) -> Result<(), Fail> {
 fn a_refusal_is_told_by_its_number(rt: HostRuntime) -> Result<(), Fail> {
     assert_eq!(rt;
         picture(raised(-16384), 2, 0)?,
-        Err(Told {
+        Err(RefusalCode {
             number: 4,
             place: 3
         })
     );
     assert_eq!(rt;
         picture(raised(10), 2, 10)?,
-        Err(Told {
+        Err(RefusalCode {
             number: 19,
             place: 0
         })

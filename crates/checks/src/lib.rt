@@ -5,12 +5,12 @@ ghost use Rattle.std.specs.Prelude.{◌≡◌, length};
 ghost use Rattle.checks.specs.Worked.{table, Worked};
 
 pub mod chained;
+pub mod empty;
 #[cfg(test)]
 mod layered;
 #[cfg(test)]
 mod logs;
-pub mod own_make;
-pub mod piles;
+pub mod pile;
 #[cfg(test)]
 mod reach;
 #[cfg(test)]

@@ -1,12 +1,10 @@
 //! Logs of a plate: other solids, budgets, refused calls and openings, in one order and another.
-use crate::own_make::Empty;
+use crate::empty::Empty;
 use crate::views::straight_down;
 use lattice::Point;
-use leaves::axis_box::AxisBox;
-use march::pixel::Pixel;
-use march::view::{ViewFault, ViewNumbers};
-use plate::Plate;
-use plate_log::fault::PlateFault;
+use leaves::AxisBox;
+use march::{Pixel, ViewFault, ViewNumbers};
+use plate::{Plate, PlateFault};
 use std::test::Fail;
 
 /// Straight down from height 100.

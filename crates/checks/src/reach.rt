@@ -1,10 +1,9 @@
 //! Where the reach stops a shift, a question and a step.
-use crate::own_make::Empty;
+use crate::empty::Empty;
 use crate::views::straight_down;
 use lattice::Point;
 use layers::Shift;
-use march::rays::Marching;
-use march::view::ViewNumbers;
+use march::{Marching, ViewNumbers};
 use refusal::Refusal;
 use solid::{QuestionFault, Solid};
 use std::test::Fail;

@@ -3,7 +3,7 @@
 // shifts, and hands what it made to the next.
 use lattice::Point;
 use layers::{LayerFault, Shift};
-use leaves::ball::Ball;
+use leaves::Ball;
 use refusal::Refusal;
 use solid::Solid;
 use std::test::Fail;

@@ -1,6 +1,6 @@
 //! The views of the tests.
 use lattice::Point;
-use march::view::ViewNumbers;
+use march::ViewNumbers;
 
 /// A view straight down from an origin, its columns along x and its rows along y.
 pub(crate) fn straight_down(origin: Point, width: i32, height: i32, far: i32) -> ViewNumbers {

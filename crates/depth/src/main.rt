@@ -3,8 +3,8 @@
 #![tactic(auto)]
 
 use anyhow::anyhow;
-use kit::{MOST_BYTES, MOST_PIXELS, render};
-use march::pixel::Pixel;
+use march::Pixel;
+use render::{MOST_BYTES, MOST_PIXELS, render};
 use std::io::{Read, Write};
 
 /// One byte more than any lawful input has, so that a longer one is seen to be too long.

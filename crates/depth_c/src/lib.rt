@@ -2,10 +2,10 @@
 #![tactic(auto)]
 
 ghost use Rattle.std.specs.Prelude.{◌≡◌};
-ghost use Rattle.depth_c.specs.Exported.{exported};
+ghost use Rattle.depth_c.specs.Exported.{depth_render};
 
-use kit::{MOST_PIXELS, render};
-use march::pixel::Pixel;
+use march::Pixel;
+use render::{MOST_PIXELS, render};
 
 /// What is answered where nothing is written. C has no `Result`: a length of 0, which no answer has,
 /// stands for a refused call.
@@ -15,7 +15,7 @@ const NOTHING: usize = 0;
 /// answers how many bytes it wrote. It wants 16,392 bytes; of fewer it writes none, and answers 0.
 #[unsafe(no_mangle)]
 pub extern "C" fn depth_render(input: &[u8], out: &mut [u8]) -> usize
-    ensures { (result, out.new) ≡ exported input.now out.old }
+    ensures { (result, out.new) ≡ depth_render input.now out.old }
 {
     let mut records = [Pixel::Miss { probes: 0 }; MOST_PIXELS];
     render(input, &mut records, out).unwrap_or(NOTHING)

@@ -3,15 +3,20 @@
 #![tactic(auto)]
 
 ghost use Rattle.std.specs.Prelude.{◌≡◌, ℕ, ◌+◌, ◌≤◌};
-ghost use Rattle.lattice.specs.Space.{dist, norm, within, back, back_wrapped, Held};
+ghost use Rattle.lattice.specs.Space.{dist, norm, within, back, back_wrapped, FitsI32, ordered};
 
-pub mod direction;
+mod direction;
+
+pub use direction::{Direction, NoRow};
 
 /// The coordinates of a ball's centre, a box's corners and a view's origin lie in
 /// -16,384..=16,383.
 pub const LEAST_COORDINATE: i32 = -16_384;
 
 pub const MOST_COORDINATE: i32 = 16_383;
+
+/// The largest part, in size, of an offset by which a solid is moved.
+pub const MOST_OFFSET: i32 = 16_383;
 
 /// A point of the lattice.
 #[derive(Clone, Copy, PartialEq, Eq, Debug)]
@@ -61,7 +66,7 @@ impl Point {
     #[inline(always)]
     pub fn wrapping_sub(self, by: Point) -> Point
         ensures value { result ≡ back_wrapped by self }
-        ensures held { Held (back by self) → result ≡ back by self }
+        ensures held { FitsI32 (back by self) → result ≡ back by self }
     {
         Point {
             x: self.x.wrapping_sub(by.x),
@@ -69,4 +74,12 @@ impl Point {
             z: self.z.wrapping_sub(by.z),
         }
     }
+}
+
+/// Is `lo` above `hi` on no axis? Two corners that are in order and in range are a box; this is its
+/// test, and so takes any two points.
+pub fn ordered(lo: Point, hi: Point) -> bool
+    ensures { result ≡ ordered lo hi }
+{
+    lo.x <= hi.x && lo.y <= hi.y && lo.z <= hi.z
 }

@@ -4,10 +4,10 @@ use Rattle.std.proofs.lemmas.Grind.{common_steps}
 use Rattle.lattice.specs.Space.{norm, In}
 use Rattle.lattice.specs.declared.Point.{Point}
 use Rattle.solid.specs.Body.{Body}
-use Rattle.geometry.specs.Layers.{unite, meet, shift, near, thicken, capped}
-use Rattle.geometry.specs.Pile.{Pile}
-use Rattle.geometry.specs.Pile.Pile.{united, met, shifted, thickened, cut}
-use Rattle.geometry.proofs.Piles.{pile_exact}
+use Rattle.piles.specs.Layers.{unite, meet, shift, near, thicken, cap}
+use Rattle.piles.specs.Pile.{Pile}
+use Rattle.piles.specs.Pile.Pile.{united, met, shifted, thickened, cut}
+use Rattle.piles.proofs.Piles.{pile_exact}
 use Rattle.layers.specs.declared.LayerFault.{LayerFault}
 use Rattle.layers.specs.Made.{offset_checked, thicken_number}
 use Rattle.layers.specs.Piled.{UnitesPiles, MeetsPiles, ShiftsPiles, ThickensPiles, CapsPiles}
@@ -34,5 +34,5 @@ thickens_piles z h a n x M e s =
     let f = distance_fits z h n in
     subst (λ k. Pile (near k M) true (thicken h a)) f.0 (thickened h f.1 (subst (λ e. Pile M e a) (sym (pile_exact s) ∙ x) s))
 
-pub caps_piles : (most : ℕ) (a : Body) → 1 ≤ most → most ≤ 2097151 → CapsPiles a (capped most a)
+pub caps_piles : (most : ℕ) (a : Body) → 1 ≤ most → most ≤ 2097151 → CapsPiles a (cap most a)
 caps_piles most a l h M e s = cut most l h s

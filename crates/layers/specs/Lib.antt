@@ -1,3 +1,3 @@
-pub mod Told
+pub mod Codes
 pub mod Made
 pub mod Piled

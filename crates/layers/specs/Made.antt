@@ -32,5 +32,5 @@ abbrev pub shift_made : {A : Type 0} → (reach : ℕ) → Point → A → Resul
 shift_made reach v made = result_map_both (λ _. made) (λ e. e) (offset_checked reach v)
 
 -- the parts of a cap
-abbrev pub parts : {A : Type 0} → A → ℕ → A × ℕ
-parts below most = (below, most)
+abbrev pub cap_parts : {A : Type 0} → A → ℕ → A × ℕ
+cap_parts below most = (below, most)

@@ -3,8 +3,8 @@ use Rattle.std.specs.Prelude.{ℕ, Bool, true, false, ◌&&◌, ◌||◌}
 use Rattle.lattice.specs.Space.{back}
 use Rattle.lattice.specs.declared.Point.{Point}
 use Rattle.solid.specs.Body.{Body}
-use Rattle.geometry.specs.Layers.{near}
-use Rattle.geometry.specs.Pile.{Pile}
+use Rattle.piles.specs.Layers.{near}
+use Rattle.piles.specs.Pile.{Pile}
 
 -- members of either, and exact over two exact ones
 abbrev pub UnitesPiles : (left right made : Body) → Type 0

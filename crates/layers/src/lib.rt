@@ -5,18 +5,17 @@
 ghost use Rattle.std.specs.Prelude.{◌≡◌, ◌≤◌, min, IfOk, Some, unsigned_abs};
 ghost use Rattle.std.specs.Result.{result_map_both};
 ghost use Rattle.refusal.specs.Texts.{refusal_text};
-ghost use Rattle.geometry.specs.Layers.{unite, meet, shift, thicken, capped};
-ghost use Rattle.geometry.specs.Stands.{NearDecides};
-ghost use Rattle.geometry.proofs.Kept.{unite_lawful, meet_lawful, shift_lawful, thicken_lawful, capped_lawful};
+ghost use Rattle.piles.specs.Layers.{unite, meet, shift, thicken, cap};
+ghost use Rattle.piles.specs.Stands.{NearDecides};
+ghost use Rattle.piles.proofs.Kept.{unite_lawful, meet_lawful, shift_lawful, thicken_lawful, capped_lawful};
 ghost use Rattle.layers.specs.declared.LayerFault.TheVariants.{Range};
-ghost use Rattle.layers.specs.Told.{layer_told};
-ghost use Rattle.layers.specs.Made.{offset_checked, shift_made, thicken_number, cap_number, parts};
+ghost use Rattle.layers.specs.Codes.{layer_code};
+ghost use Rattle.layers.specs.Made.{offset_checked, shift_made, thicken_number, cap_number, cap_parts};
 ghost use Rattle.layers.specs.Piled.{UnitesPiles, MeetsPiles, ShiftsPiles, ThickensPiles, CapsPiles};
 
-use lattice::Point;
-use refusal::range::{OutOfRange, count_in, in_range};
-use refusal::told::Told;
-use refusal::{Refusal, Rule};
+use lattice::{MOST_OFFSET, Point};
+use piles::{LEAST_CAP, LEAST_THICKNESS, MOST_THICKNESS};
+use refusal::{OutOfRange, Refusal, RefusalCode, Rule, count_in, in_range};
 use solid::{Exact, MOST_CLEARANCE, QuestionFault, Solid, check_asked};
 use std::fmt;
 
@@ -31,7 +30,7 @@ pub enum LayerFault {
 }
 
 impl Refusal for LayerFault {
-    ghost told = { layer_told };
+    ghost code = { layer_code };
 
     fn number(&self) -> u32 {
         match *self {
@@ -49,10 +48,10 @@ impl Refusal for LayerFault {
 }
 
 impl fmt::Display for LayerFault {
-    ghost output = { λ fault. Some (refusal_text (layer_told fault)) };
+    ghost output = { λ fault. Some (refusal_text (layer_code fault)) };
 
     fn fmt<W: fmt::Write>(&self, f: &mut fmt::Formatter<W>) -> fmt::Result {
-        Told::of(self).fmt(f)
+        RefusalCode::of(self).fmt(f)
     }
 }
 
@@ -63,21 +62,6 @@ impl From<OutOfRange> for LayerFault {
         LayerFault::Range { place: fault.place }
     }
 }
-
-/// The largest part that an offset may have, in size.
-pub const MOST_OFFSET: i32 = 16_383;
-
-/// The least distance to thicken by.
-pub const LEAST_THICKNESS: i32 = 0;
-
-/// The largest distance to thicken by.
-pub const MOST_THICKNESS: i32 = 1023;
-
-/// The least bound that a cap may set.
-const LEAST_CAP: i32 = 1;
-
-/// The largest bound that a cap may set.
-const MOST_CAP: i32 = 2_097_151;
 
 /// Where a call's numbers stand. An offset has three; a distance or a bound is the first alone.
 const FIRST: u32 = 1;
@@ -314,16 +298,16 @@ pub struct Cap<S> {
 impl<S: Solid + Drop> Cap<S> {
     /// Refuses with 4 a bound outside 1..=2097151.
     pub fn new(below: S, most: i32) -> Result<Cap<S>, LayerFault>
-        ensures value { result_map_both (λ c. parts c.below c.most) (λ e. e) result ≡ result_map_both (parts below) (λ e. e) (cap_number most) }
+        ensures value { result_map_both (λ c. cap_parts c.below c.most) (λ e. e) result ≡ result_map_both (cap_parts below) (λ e. e) (cap_number most) }
         ensures piled { IfOk result (λ made. CapsPiles (S.Solid.body below) (⟦<Cap<S> as Solid>⟧.body made)) }
     {
-        let most = count_in(most, LEAST_CAP, MOST_CAP, FIRST)?;
+        let most = count_in(most, LEAST_CAP, MOST_CLEARANCE as i32, FIRST)?;
         Ok(Cap { below, most })
     }
 }
 
 impl<S: Solid> Solid for Cap<S> {
-    ghost body = { λ c. capped c.most (S.Solid.body c.below) };
+    ghost body = { λ c. cap c.most (S.Solid.body c.below) };
 
     ghost lawful = { λ c. capped_lawful c.most _ c.some (S.Solid.lawful c.below) };
 

@@ -4,7 +4,9 @@ use Rattle.std.specs.Prelude.{ℕ, ◌+◌, ◌*◌, Bool, cond, ◌&&◌, List,
 use Rattle.std.specs.Result.{result_and, result_map_both}
 use Rattle.lattice.specs.declared.Point.{Point}
 use Rattle.solid.specs.Body.{Body}
-use Rattle.geometry.specs.Leaves.{between, ordered, surface}
+use Rattle.refusal.specs.Ranges.{between}
+use Rattle.lattice.specs.Space.{ordered}
+use Rattle.piles.specs.Leaves.{surface}
 use Rattle.leaves.specs.declared.surface.SurfaceSize.{SurfaceSize}
 use Rattle.leaves.specs.declared.fault.LeafFault.{LeafFault}
 use Rattle.leaves.specs.declared.fault.LeafFault.TheVariants.{Range, Crossed}

@@ -1,16 +1,15 @@
 //! The box.
 ghost use Rattle.std.specs.Prelude.{◌≡◌, min, true};
 ghost use Rattle.std.specs.Result.{result_map_both};
-ghost use Rattle.lattice.specs.Space.{IsPlacement};
+ghost use Rattle.lattice.specs.Space.{IsPlacement, ordered};
 ghost use Rattle.lattice.proofs.Distance.{placement_in};
-ghost use Rattle.geometry.specs.Leaves.{ordered, block};
-ghost use Rattle.geometry.proofs.Boxes.{block_lawful};
+ghost use Rattle.piles.specs.Leaves.{block};
+ghost use Rattle.piles.proofs.Boxes.{block_lawful};
 ghost use Rattle.leaves.specs.Made.{box_made};
 
 use super::fault::{LeafFault, check_point};
 use super::{LEAF_REACH, LeafPoint};
-use geometry::ordered;
-use lattice::Point;
+use lattice::{Point, ordered};
 use solid::{Exact, MOST_CLEARANCE, QuestionFault, Solid};
 
 /// The points that lie from `lo` to `hi` on each axis.

@@ -3,15 +3,15 @@ ghost use Rattle.std.specs.Prelude.{◌≡◌, ℕ, ◌+◌, ◌-◌, ◌*◌, �
 ghost use Rattle.std.specs.Result.{result_map_both};
 ghost use Rattle.lattice.specs.Space.{IsPlacement, gap};
 ghost use Rattle.lattice.proofs.Distance.{placement_in};
-ghost use Rattle.geometry.specs.Leaves.{least, fits, ball};
-ghost use Rattle.geometry.specs.Stands.{SmallestStands};
-ghost use Rattle.geometry.proofs.Balls.{ball_lawful};
+ghost use Rattle.piles.specs.Leaves.{least, fits, ball};
+ghost use Rattle.piles.specs.Stands.{SmallestStands};
+ghost use Rattle.piles.proofs.Balls.{ball_lawful};
 ghost use Rattle.leaves.specs.Made.{ball_made};
 
 use super::fault::{LeafFault, check_point};
 use super::{LEAF_REACH, LeafPoint};
 use lattice::Point;
-use refusal::range::count_in;
+use refusal::count_in;
 use solid::{Exact, MOST_CLEARANCE, QuestionFault, Solid};
 
 /// The points whose squared offsets from the centre add to at most the radius squared.

@@ -2,14 +2,12 @@
 ghost use Rattle.std.specs.Prelude.{◌≡◌, ◌≤◌, true, is_ok, Some};
 ghost use Rattle.refusal.specs.Texts.{refusal_text};
 ghost use Rattle.lattice.specs.Space.{IsPlacement};
-ghost use Rattle.leaves.specs.Told.{leaf_told, surface_told};
+ghost use Rattle.leaves.specs.Codes.{leaf_code, surface_code};
 ghost use Rattle.leaves.specs.declared.fault.LeafFault.TheVariants.{Range};
 ghost use Rattle.leaves.specs.Made.{point_ranged};
 
 use lattice::{LEAST_COORDINATE, MOST_COORDINATE, Point};
-use refusal::range::{OutOfRange, in_range};
-use refusal::told::Told;
-use refusal::{Refusal, Rule};
+use refusal::{OutOfRange, Refusal, RefusalCode, Rule, in_range};
 use std::fmt;
 
 /// Why a ball or a box is not made.
@@ -22,7 +20,7 @@ pub enum LeafFault {
 }
 
 impl Refusal for LeafFault {
-    ghost told = { leaf_told };
+    ghost code = { leaf_code };
 
     fn number(&self) -> u32 {
         match self {
@@ -40,10 +38,10 @@ impl Refusal for LeafFault {
 }
 
 impl fmt::Display for LeafFault {
-    ghost output = { λ fault. Some (refusal_text (leaf_told fault)) };
+    ghost output = { λ fault. Some (refusal_text (leaf_code fault)) };
 
     fn fmt<W: fmt::Write>(&self, f: &mut fmt::Formatter<W>) -> fmt::Result {
-        Told::of(self).fmt(f)
+        RefusalCode::of(self).fmt(f)
     }
 }
 
@@ -65,7 +63,7 @@ pub enum SurfaceFault {
 }
 
 impl Refusal for SurfaceFault {
-    ghost told = { surface_told };
+    ghost code = { surface_code };
 
     fn number(&self) -> u32 {
         match self {
@@ -80,10 +78,10 @@ impl Refusal for SurfaceFault {
 }
 
 impl fmt::Display for SurfaceFault {
-    ghost output = { λ fault. Some (refusal_text (surface_told fault)) };
+    ghost output = { λ fault. Some (refusal_text (surface_code fault)) };
 
     fn fmt<W: fmt::Write>(&self, f: &mut fmt::Formatter<W>) -> fmt::Result {
-        Told::of(self).fmt(f)
+        RefusalCode::of(self).fmt(f)
     }
 }
 

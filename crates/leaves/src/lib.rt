@@ -4,18 +4,23 @@
 ghost use Rattle.std.specs.Prelude.{◌≡◌, Ok};
 ghost use Rattle.std.specs.Result.{result_and, result_map_both};
 ghost use Rattle.lattice.specs.Space.{In};
-ghost use Rattle.solid.specs.Answer.{asked};
-ghost use Rattle.geometry.specs.Leaves.{leaf_reach, block};
+ghost use Rattle.solid.specs.Answer.{check_asked};
+ghost use Rattle.piles.specs.Leaves.{leaf_reach, block};
 
 use axis::outside;
 use lattice::Point;
 use solid::{MOST_REACH, QuestionFault, check_asked};
 
 mod axis;
-pub mod axis_box;
-pub mod ball;
-pub mod fault;
-pub mod surface;
+mod axis_box;
+mod ball;
+mod fault;
+mod surface;
+
+pub use axis_box::AxisBox;
+pub use ball::{Ball, LEAST_RADIUS, MOST_RADIUS};
+pub use fault::{LeafFault, SurfaceFault};
+pub use surface::{LONGEST_SIDE, SHORTEST_SIDE, Sheet, Surface, SurfaceSize};
 
 /// Every leaf answers at the points whose coordinates are at most this, in size: as far as a solid may.
 const LEAF_REACH: u32 = MOST_REACH;
@@ -31,7 +36,7 @@ impl LeafPoint {
     /// The point, as one that leaves are asked at. Refused, with 17, where a coordinate is above the
     /// leaves' reach in size.
     pub fn new(at: Point) -> Result<LeafPoint, QuestionFault>
-        ensures { result_map_both (λ (p : LeafPoint). p.at) (λ e. e) result ≡ result_and (asked leaf_reach at) (Ok at) }
+        ensures { result_map_both (λ (p : LeafPoint). p.at) (λ e. e) result ≡ result_and (check_asked leaf_reach at) (Ok at) }
     {
         check_asked(LEAF_REACH, at)?;
         Ok(LeafPoint { at })

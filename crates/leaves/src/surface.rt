@@ -1,8 +1,8 @@
 //! The surface: columns that stand side by side on a sheet.
 ghost use Rattle.std.specs.Prelude.{◌≡◌, ◌*◌, ◌≤◌, cond, length, unsigned_abs, Ok, Err};
 ghost use Rattle.std.specs.Result.{result_map_both};
-ghost use Rattle.geometry.specs.Leaves.{last, greatest, off_block};
-ghost use Rattle.geometry.proofs.Surfaces.{surface_lawful};
+ghost use Rattle.piles.specs.Leaves.{last_column, greatest, off_bounding_block};
+ghost use Rattle.piles.proofs.Surfaces.{surface_lawful};
 ghost use Rattle.leaves.specs.declared.fault.SurfaceFault.TheVariants.{Size};
 ghost use Rattle.leaves.specs.Made.{is_side, size_made, sheet_made, surface_body};
 
@@ -110,7 +110,7 @@ impl<'a> Sheet<'a> {
 /// The last column along a side.
 fn last(side: u32) -> i32
     requires { side ≤ 64 }
-    ensures { result ≡ last side }
+    ensures { result ≡ last_column side }
 {
     side as i32 - 1
 }
@@ -149,7 +149,7 @@ impl<'a> Surface<'a> {
 
     /// How far the point lies off the block that bounds the columns.
     fn off_block(&self, p: LeafPoint) -> u32
-        ensures { result ≡ off_block self.now.sheet.size.width self.now.sheet.size.depth self.now.top p.at }
+        ensures { result ≡ off_bounding_block self.now.sheet.size.width self.now.sheet.size.depth self.now.top p.at }
     {
         let x = outside(0, last(self.sheet.size.width), p.at.x);
         let y = outside(0, last(self.sheet.size.depth), p.at.y);

@@ -10,7 +10,7 @@ use Rattle.solid.specs.Answer.{answer_up_to}
 use Rattle.solid.proofs.Asked.{up_to_in}
 use Rattle.march.specs.View.{along}
 use Rattle.march.proofs.Space.{dist_along}
-use Rattle.march.proofs.Ray.{Clears, Rides}
+use Rattle.march.proofs.RaySteps.{Clears, Rides}
 
 -- a ray from p in the direction d, up to far, that stays in the working range, and a body of members M that reaches as far
 module _ (p : Point) (d : Direction) (far : ℕ) (ray : (t : ℕ) → t ≤ far → In 32767 (along p t d))

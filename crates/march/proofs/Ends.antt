@@ -5,13 +5,13 @@ use Rattle.lattice.specs.Space.{In}
 use Rattle.solid.specs.Body.{Body, Lawful}
 use Rattle.march.specs.declared.pixel.Pixel.{Pixel}
 use Rattle.march.specs.declared.pixel.Pixel.TheVariants.{Marching as marching, Hit as hit, Miss as miss}
-use Rattle.march.specs.declared.rays.Marching.{Marching}
-use Rattle.march.specs.declared.rays.Outcome.TheVariants.{Hit, Miss}
-use Rattle.march.specs.declared.rays.Settled.{Settled}
-use Rattle.march.specs.March.{stepped, settled, marches, probes, Right}
+use Rattle.march.specs.declared.marching.Marching.{Marching}
+use Rattle.march.specs.declared.settled.Outcome.TheVariants.{Hit, Miss}
+use Rattle.march.specs.declared.settled.Settled.{Settled}
+use Rattle.march.specs.March.{after_probe, settle, marches, probes, IsRight}
 use Rattle.march.specs.View.{along}
-use Rattle.march.specs.Rays.{PlainRay, plain_ray, clear_of, member_of, state, on, done, after, step_of, end, Contact}
-use Rattle.march.proofs.Ray.{stepped_by, settled_stays, settled_same, right_settled, takes_some, takes_settles, Settles}
+use Rattle.march.specs.Rays.{PlainRay, plain_ray, clear_of, member_of, settled_pixel, on, done, ray_after, step_of, end_of, IsFirstContact}
+use Rattle.march.proofs.RaySteps.{stepped_by, settled_stays, settled_same, right_settled, takes_some, takes_settles, Settles}
 use Rattle.march.proofs.Space.{ray_in}
 use Rattle.march.proofs.Bodies.{body_clears}
 
@@ -21,18 +21,18 @@ not_done s p e = let z : ◌≡◌ {A = ℕ} 0 1 = cc in absurd (omega arith)
 module _ (b : Body) (r : PlainRay) where
   -- the end of the march, once the first of its far + 1 steps is made
   abbrev Onward : Pixel → Type 0
-  Onward p = (settled (clear_of b r) r.far r.far p).0 ≡ end b r
+  Onward p = (settle (clear_of b r) r.far r.far p).0 ≡ end_of b r
 
-  onward : Onward (stepped r.far r.t r.probes (clear_of b r r.t))
-  onward = sym (ap (λ (n : ℕ). (settled (clear_of b r) r.far n (marching r.t r.probes)).0) (add-one r.far))
+  onward : Onward (after_probe r.far r.t r.probes (clear_of b r r.t))
+  onward = sym (ap (λ (n : ℕ). (settle (clear_of b r) r.far n (marching r.t r.probes)).0) (add-one r.far))
 
   abbrev pub Further : PlainRay → Type 0
-  Further s = (end b s ≡ end b r) × (s.far ≡ r.far) × (r.t < s.t)
+  Further s = (end_of b s ≡ end_of b r) × (s.far ≡ r.far) × (r.t < s.t)
 
   -- a ray that marches on has the same end, and is further along
   pub step_on : (s : PlainRay) → on s ≡ step_of b r → Further s
   step_on s =
-      stepped_by (λ p. Onward p → on s ≡ after r p → Further s) r.far r.t r.probes (clear_of b r r.t)
+      stepped_by (λ p. Onward p → on s ≡ ray_after r p → Further s) r.far r.t r.probes (clear_of b r r.t)
       (λ _ _ e. not_done s _ e)
       (λ _ _ _ e. not_done s _ e)
       (λ some le h e.
@@ -47,27 +47,27 @@ module _ (b : Body) (r : PlainRay) where
       onward
 
   -- a ray that has settled is at that end
-  pub step_done : (p : Pixel) → done p ≡ step_of b r → p ≡ end b r
+  pub step_done : (p : Pixel) → done p ≡ step_of b r → p ≡ end_of b r
   step_done p =
-      stepped_by (λ q. Onward q → done p ≡ after r q → p ≡ end b r) r.far r.t r.probes (clear_of b r r.t)
+      stepped_by (λ q. Onward q → done p ≡ ray_after r q → p ≡ end_of b r) r.far r.t r.probes (clear_of b r r.t)
       (λ _ h e. let same : p ≡ hit r.t (r.probes + 1) = cc in same ∙ sym (stays (hit r.t (r.probes + 1)) refl) ∙ h)
       (λ _ _ h e. let same : p ≡ miss (r.probes + 1) = cc in same ∙ sym (stays (miss (r.probes + 1)) refl) ∙ h)
       (λ _ _ _ e. not_done _ p (sym e))
       onward
     where
-      stays : (q : Pixel) → marches q ≡ false → (settled (clear_of b r) r.far r.far q).0 ≡ q
+      stays : (q : Pixel) → marches q ≡ false → (settle (clear_of b r) r.far r.far q).0 ≡ q
       stays q e = ap (λ (s : Pixel × ℕ). s.0) (settled_stays (clear_of b r) r.far r.far q e)
 
-probes_of : (s : Settled) → s.probes ≡ probes (state s)
-probes_of s = elim s.outcome as (λ o. s.probes ≡ probes (state (record { outcome = o; probes = s.probes }))) [ Hit d ↦ refl | Miss ↦ refl ]
+probes_of : (s : Settled) → s.probes ≡ probes (settled_pixel s)
+probes_of s = elim s.outcome as (λ o. s.probes ≡ probes (settled_pixel (record { outcome = o; probes = s.probes }))) [ Hit d ↦ refl | Miss ↦ refl ]
 
 -- what the end of its march tells, over a lawful body that is deep enough
-pub contact : (b : Body) → Lawful b → 32767 ≤ b.reach → (m : Marching) (s : Settled) → state s ≡ end b (plain_ray m) → Contact b (plain_ray m) s
+pub contact : (b : Body) → Lawful b → 32767 ≤ b.reach → (m : Marching) (s : Settled) → settled_pixel s ≡ end_of b (plain_ray m) → IsFirstContact b (plain_ray m) s
 contact b law deep m s e =
     let r = plain_ray m in
     let c = clear_of b r in
     let fuel = r.far + 1 - r.t in
-    let far_in : (t : ℕ) → t ≤ m.ray.far → In 32767 (along m.ray.start t m.ray.toward) = λ t h. ray_in m.ray.start m.ray.toward t m.ray.far (m.ray.left, m.ray.low, m.ray.near) m.ray.close h in
+    let far_in : (t : ℕ) → t ≤ m.ray.far → In 32767 (along m.ray.start t m.ray.toward) = λ t h. ray_in m.ray.start m.ray.toward t m.ray.far (m.ray.x_in_range, m.ray.y_in_range, m.ray.z_in_range) m.ray.far_in_range h in
     let k = takes_some c r.far fuel r.t m.onto (omega (arith, m.onto)) in
     let rest = r.far + 1 - k.0 in
     let whole : k.0 + rest ≡ r.far + 1 = omega arith in
@@ -75,7 +75,7 @@ contact b law deep m s e =
     subst (λ (n : ℕ). Settles c r.far n rest (r.probes + k.0) (marching r.t r.probes)) whole (takes_settles c r.far rest r.probes k.2) in
     let count : s.probes ≡ r.probes + k.0 = probes_of s ∙ ap probes e ∙ ends.1 in
     record {
-      right = λ none. subst⁻¹ (Right (member_of b r) r.far) e (right_settled (member_of b r) r.far c (body_clears m.ray.start m.ray.toward m.ray.far far_in b.member b law deep (λ q. refl)) (r.far + 1) (marching r.t r.probes) (m.onto, none));
+      right = λ none. subst⁻¹ (IsRight (member_of b r) r.far) e (right_settled (member_of b r) r.far c (body_clears m.ray.start m.ray.toward m.ray.far far_in b.member b law deep (λ q. refl)) (r.far + 1) (marching r.t r.probes) (m.onto, none));
       takes = (k.0, k.2, count);
       most = omega (arith, m.counted, m.onto);
     }

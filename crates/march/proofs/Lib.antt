@@ -1,5 +1,5 @@
 pub mod Space
-pub mod Ray
+pub mod RaySteps
 pub mod Bodies
 pub mod Numbers
 pub mod Ends

@@ -6,9 +6,11 @@ use borrow.Author.Differences.{ints}
 use Rattle.lattice.specs.declared.Point.{Point}
 use Rattle.lattice.specs.Space.{In}
 use Rattle.march.specs.declared.view.ViewNumbers.{ViewNumbers}
-use Rattle.march.specs.declared.view.ViewFault.{ViewFault}
-use Rattle.march.specs.declared.view.ViewFault.TheVariants.{Range}
-use Rattle.march.specs.Checks.{Way, and_then, range_answer, count_answer, part_answer, origin_answer, ways_answer, sizes_answer, view_answer}
+use Rattle.march.specs.declared.fault.ViewFault.{ViewFault}
+use Rattle.march.specs.declared.fault.ViewFault.TheVariants.{Range}
+use Rattle.refusal.specs.Checks.{and_then}
+use Rattle.lattice.specs.Rows.{Way}
+use Rattle.march.specs.Checks.{range_answer, count_answer, part_answer, origin_answer, ways_answer, sizes_answer, view_answer}
 
 -- one check after another
 then_ok : {A B : Type 0} (r : Result A ViewFault) (next : A → Result B ViewFault) (a : A) → Ok a ≡ r → and_then r next ≡ next a

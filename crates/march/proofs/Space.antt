@@ -26,17 +26,17 @@ size_along a (negsuc (suc k)) n r m h ha hn = absurd (omega arith)
 -- at most m steps from a point whose parts are at most r in size
 pub in_along : (p : Point) (d : Direction) (n r m : ℕ) → In r p → n ≤ m → In (r + m) (along p n d)
 in_along p d n r m hp hn = (
-  size_along p.x d.x n r m d.flat hp.0 hn,
-  size_along p.y d.y n r m d.level hp.1 hn,
-  size_along p.z d.z n r m d.plumb hp.2 hn,
+  size_along p.x d.x n r m d.x_in_range hp.0 hn,
+  size_along p.y d.y n r m d.y_in_range hp.1 hn,
+  size_along p.z d.z n r m d.z_in_range hp.2 hn,
 )
 
 -- two points of one ray
 pub dist_along : (p : Point) (d : Direction) (s t : ℕ) → s ≤ t → dist (along p s d) (along p t d) ≤ t - s
 dist_along p d s t le =
-    let a = gap_along p.x d.x s t d.flat le in
-    let b = gap_along p.y d.y s t d.level le in
-    let c = gap_along p.z d.z s t d.plumb le in
+    let a = gap_along p.x d.x s t d.x_in_range le in
+    let b = gap_along p.y d.y s t d.y_in_range le in
+    let c = gap_along p.z d.z s t d.z_in_range le in
     omega arith
 
 -- a ray that starts where a view's rays may start stays in the working range
@@ -45,10 +45,10 @@ ray_in p d t far hp hf ht = in_less 20605 32767 (along p t d) (omega arith) (in_
 
 -- the rays of a view
 pub across_in : (v : View) (i : ℕ) → i < v.width → In 16447 (along v.origin i v.across)
-across_in v i h = in_along v.origin v.across i 16384 63 (v.left, v.low, v.near) (omega (arith, v.wide))
+across_in v i h = in_along v.origin v.across i 16384 63 (v.x_in_range, v.y_in_range, v.z_in_range) (omega (arith, v.width_in_range))
 
 pub start_in : (v : View) (i j : ℕ) → i < v.width → j < v.height → In 16510 (start v i j)
-start_in v i j hi hj = in_along (along v.origin i v.across) v.down j 16447 63 (across_in v i hi) (omega (arith, v.high))
+start_in v i j hi hj = in_along (along v.origin i v.across) v.down j 16447 63 (across_in v i hi) (omega (arith, v.height_in_range))
 
 pub point_in : (v : View) (i j t : ℕ) → i < v.width → j < v.height → t ≤ v.far → In 32767 (point v i j t)
-point_in v i j t hi hj ht = ray_in (start v i j) v.ray t v.far (start_in v i j hi hj) v.close ht
+point_in v i j t hi hj ht = ray_in (start v i j) v.ray t v.far (start_in v i j hi hj) v.far_in_range ht

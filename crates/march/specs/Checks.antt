@@ -4,18 +4,12 @@ use Rattle.std.specs.Prelude.{ℕ, cond, ◌&&◌, ℤ, pos, negsuc, Ok, Err, Re
 use Rattle.std.specs.Option.{ok_or}
 use Rattle.lattice.specs.declared.Point.{Point}
 use Rattle.lattice.specs.declared.direction.Direction.{Direction}
-use Rattle.lattice.specs.Rows.{row_of}
+use Rattle.refusal.specs.Checks.{and_then}
+use Rattle.lattice.specs.Rows.{Way, way, row_of}
 use Rattle.march.specs.declared.view.ViewNumbers.{ViewNumbers}
 use Rattle.march.specs.declared.view.View.{View}
-use Rattle.march.specs.declared.view.ViewFault.{ViewFault}
-use Rattle.march.specs.declared.view.ViewFault.TheVariants.{Range, Row}
-
--- a direction by its three parts
-abbrev pub Way : Type 0
-Way = ℤ × ℤ × ℤ
-
-abbrev pub way : Direction → Way
-way d = (d.x, d.y, d.z)
+use Rattle.march.specs.declared.fault.ViewFault.{ViewFault}
+use Rattle.march.specs.declared.fault.ViewFault.TheVariants.{Range, Row}
 
 abbrev pub way_in : Result Direction ViewFault → Result Way ViewFault
 way_in (Ok d) = Ok (way d)
@@ -47,8 +41,8 @@ plain_view v = record {
 }
 
 -- the view of no pixels
-abbrev pub blank : PlainView
-blank = record {
+abbrev pub blank_view : PlainView
+blank_view = record {
   origin = record { x = pos 0; y = pos 0; z = pos 0 };
   ray = (pos 0, pos 0, pos 1);
   across = (pos 1, pos 0, pos 0);
@@ -61,11 +55,6 @@ blank = record {
 abbrev pub plain_in : Result View ViewFault → Result PlainView ViewFault
 plain_in (Ok v) = Ok (plain_view v)
 plain_in (Err f) = Err f
-
--- one check after another
-abbrev pub and_then : {A B : Type 0} → Result A ViewFault → (A → Result B ViewFault) → Result B ViewFault
-and_then (Ok a) next = next a
-and_then (Err f) next = Err f
 
 -- a number from lo to hi
 unfoldable pub range_answer : (lo hi n : ℤ) (place : ℕ) → Result ℤ ViewFault

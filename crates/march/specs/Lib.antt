@@ -1,5 +1,5 @@
 pub mod View
-pub mod Told
+pub mod Codes
 pub mod Checks
 pub mod March
 pub mod Rays

@@ -1,11 +1,11 @@
 //! Solids that answer on all of the working range.
 ghost use Rattle.std.specs.Prelude.{◌≡◌, ◌<◌, ◌≤◌, MatchResult};
 
-use crate::rays::StepFault;
+use crate::fault::StepFault;
 use solid::Solid;
 
 /// The working range is the points whose coordinates are at most this, in size.
-const WORKING: u32 = 32_767;
+pub const WORKING_RANGE: u32 = 32_767;
 
 /// A solid that is lent, and answers on all of the working range. Every point of a ray lies there.
 #[derive(Drop)]
@@ -19,7 +19,7 @@ impl<'a, S: Solid> Deep<'a, S> {
     pub fn of(solid: &'a S) -> Result<Deep<'a, S>, StepFault>
         ensures { MatchResult result (λ deep. deep.solid.now ≡ solid.now) (λ _. (S.Solid.body solid.now).reach < 32767) }
     {
-        if solid.reach() < WORKING {
+        if solid.reach() < WORKING_RANGE {
             return Err(StepFault::Shallow);
         }
         Ok(Deep { solid })

@@ -1,34 +1,19 @@
 //! Rays that march to first contact, knowing only what a solid means.
 #![tactic(auto)]
 
-ghost use Rattle.std.specs.Prelude.{◌≡◌, ◌≤◌, pos, ◌+ℤ◌, ◌*ℤ◌, unsigned_abs};
-ghost use Rattle.lattice.specs.Space.{In};
-ghost use Rattle.march.specs.View.{along};
+mod along;
+mod deep;
+mod fault;
+mod marching;
+mod pixel;
+mod ray;
+mod settled;
+mod view;
 
-use lattice::Point;
-use lattice::direction::Direction;
-
-pub mod deep;
-pub mod pixel;
-pub mod rays;
-pub mod view;
-
-/// n steps of a part of a direction, on one axis.
-fn ahead(from: i32, n: u32, d: i32) -> i32
-    requires { (unsigned_abs from ≤ 32767) × (n ≤ 4095) × (unsigned_abs d ≤ 1) }
-    ensures { result ≡ from +ℤ (pos n *ℤ d) }
-{
-    from + n as i32 * d
-}
-
-/// The point n steps from p.
-fn moved(p: Point, n: u32, d: Direction) -> Point
-    requires { In 32767 p × (n ≤ 4095) }
-    ensures { result ≡ along p n d }
-{
-    Point {
-        x: ahead(p.x, n, d.x),
-        y: ahead(p.y, n, d.y),
-        z: ahead(p.z, n, d.z),
-    }
-}
+pub use deep::{Deep, WORKING_RANGE};
+pub use fault::{PixelFault, RayFault, StepFault, ViewFault};
+pub use marching::{Marching, Stepped};
+pub use pixel::Pixel;
+pub use ray::Ray;
+pub use settled::{Outcome, Settled};
+pub use view::{MOST_FAR, MOST_PIXELS, MOST_SIDE, View, ViewNumbers};

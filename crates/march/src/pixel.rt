@@ -1,10 +1,8 @@
 //! A pixel's state.
-ghost use Rattle.std.specs.Prelude.{◌≡◌};
-ghost use Rattle.march.specs.March.{after_step};
-ghost use Rattle.march.specs.View.{clear_along};
+ghost use Rattle.std.specs.Prelude.{◌≡◌, ◌≤◌};
 
 use crate::deep::Deep;
-use crate::rays::Ray;
+use crate::ray::Ray;
 use solid::Solid;
 
 /// How far the ray of a pixel has come. It marches, at `t` along its ray, or it has settled, as a
@@ -17,6 +15,27 @@ pub enum Pixel {
 }
 
 impl Pixel {
+    ghost use Rattle.march.specs.March.{after_probe, after_step};
+    ghost use Rattle.march.specs.View.{clear_along};
+
+    /// What a probe at t, answered by that clearance, leaves of a march with so many probes before it.
+    pub(crate) fn after_probe(far: u32, t: u32, probes: u32, clearance: u32) -> Pixel
+        requires { (t ≤ far) × (far ≤ 4095) × (probes ≤ t) }
+        ensures { result ≡ after_probe far t probes clearance }
+    {
+        let probes = probes + 1;
+        if clearance == 0 {
+            return Pixel::Hit { depth: t, probes };
+        }
+        if clearance > far - t {
+            return Pixel::Miss { probes };
+        }
+        Pixel::Marching {
+            t: t + clearance,
+            probes,
+        }
+    }
+
     /// The pixel after one step along its ray, over a solid that answers on all of the working
     /// range. A settled pixel stays as it is. So does one with a t past the end of the ray, or with
     /// more probes than its t: no march leaves such a pixel.

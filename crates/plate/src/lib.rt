@@ -4,19 +4,17 @@
 
 ghost use Rattle.std.specs.Prelude.{◌≡◌, ℕ, ◌+◌, ◌-◌, ◌*◌, ◌≤◌, true, ◌++◌, length, take, drop, replicate};
 ghost use Rattle.march.specs.View.{clear_along};
-ghost use Rattle.march.specs.March.{fresh, sane, marches, settled};
-ghost use Rattle.plate_log.specs.Sweep.{all_sane, marching, swept};
-ghost use Rattle.plate_log.specs.Log.{area, along_ray, word, image};
+ghost use Rattle.march.specs.March.{new_pixel, is_sane, marches, settle};
+ghost use Rattle.plate_log.specs.Sweep.{are_sane, count_marching, sweep};
+ghost use Rattle.plate_log.specs.Log.{area, clear_on_ray, pixel_word, image};
 
-use march::deep::Deep;
-use march::pixel::Pixel;
-use march::rays::Ray;
-use march::view::View;
+use march::{Deep, Pixel, Ray, View};
 use solid::Solid;
-use words::kind::{FIRST_OF_TWO, Kind};
-use words::writing::put;
+use words::{FIRST_OF_TWO, Kind, put};
 
-pub mod calls;
+mod calls;
+
+pub use plate_log::PlateFault;
 
 /// A plate over the records that its user lends. It has one pixel for each of its view's, row by
 /// row; the records past the last pixel are never written.
@@ -25,7 +23,7 @@ pub struct Plate<'a> {
     records: &'a mut [Pixel],
     view: View,
     ghost room: { area view ≤ length records.now },
-    ghost sound: { all_sane view.far (take (area view) records.now) ≡ true },
+    ghost sound: { are_sane view.far (take (area view) records.now) ≡ true },
 }
 
 fn is_marching(pixel: Pixel) -> bool
@@ -37,14 +35,14 @@ fn is_marching(pixel: Pixel) -> bool
 /// How many of the pixels march.
 fn count_marching(pixels: &[Pixel]) -> u32
     requires { length pixels.now ≤ 4096 }
-    ensures { result ≡ marching pixels.now }
+    ensures { result ≡ count_marching pixels.now }
 {
     pixels.iter().filter(|pixel| is_marching(**pixel)).count() as u32
 }
 
 /// Makes the pixels those of new rays.
 fn renew(pixels: &mut [Pixel])
-    ensures { pixels.new ≡ replicate (length pixels.old) fresh }
+    ensures { pixels.new ≡ replicate (length pixels.old) new_pixel }
 {
     pixels.fill(Pixel::Marching { t: 0, probes: 0 });
 }
@@ -53,10 +51,10 @@ fn renew(pixels: &mut [Pixel])
 /// How much was spent.
 fn sweep_all<S: Solid>(pixels: &mut [Pixel], view: View, solid: &Deep<'_, S>, budget: u32) -> u32
     requires all { length pixels.old ≡ area view }
-    requires sound { all_sane view.far pixels.old ≡ true }
-    ensures value { pixels.new ≡ (swept (along_ray view (S.Solid.body solid.now.solid.now)) view.far budget 0 pixels.old).0 }
-    ensures spent { result ≡ budget - (swept (along_ray view (S.Solid.body solid.now.solid.now)) view.far budget 0 pixels.old).1 }
-    ensures sound { all_sane view.far pixels.new ≡ true }
+    requires sound { are_sane view.far pixels.old ≡ true }
+    ensures value { pixels.new ≡ (sweep (clear_on_ray view (S.Solid.body solid.now.solid.now)) view.far budget 0 pixels.old).0 }
+    ensures spent { result ≡ budget - (sweep (clear_on_ray view (S.Solid.body solid.now.solid.now)) view.far budget 0 pixels.old).1 }
+    ensures sound { are_sane view.far pixels.new ≡ true }
 {
     let width = view.width() as usize;
     let mut spent = 0;
@@ -79,10 +77,10 @@ fn sweep_all<S: Solid>(pixels: &mut [Pixel], view: View, solid: &Deep<'_, S>, bu
 
 /// Steps a pixel along its ray until it settles or the budget is spent. How much was spent.
 fn settle<S: Solid>(pixel: &mut Pixel, ray: Ray, solid: &Deep<'_, S>, budget: u32) -> u32
-    requires sound { sane ray.far pixel.old ≡ true }
-    ensures value { pixel.new ≡ (settled (clear_along (S.Solid.body solid.now.solid.now) ray) ray.far budget pixel.old).0 }
-    ensures spent { result ≡ budget - (settled (clear_along (S.Solid.body solid.now.solid.now) ray) ray.far budget pixel.old).1 }
-    ensures sound { sane ray.far pixel.new ≡ true }
+    requires sound { is_sane ray.far pixel.old ≡ true }
+    ensures value { pixel.new ≡ (settle (clear_along (S.Solid.body solid.now.solid.now) ray) ray.far budget pixel.old).0 }
+    ensures spent { result ≡ budget - (settle (clear_along (S.Solid.body solid.now.solid.now) ray) ray.far budget pixel.old).1 }
+    ensures sound { is_sane ray.far pixel.new ≡ true }
 {
     for spent in 0..budget {
         if !is_marching(*pixel) {
@@ -95,8 +93,8 @@ fn settle<S: Solid>(pixel: &mut Pixel, ray: Ray, solid: &Deep<'_, S>, budget: u3
 
 /// A pixel as a word of an image, where it has settled.
 fn word_of(pixel: Pixel) -> u32
-    requires { sane 4095 pixel ≡ true }
-    ensures { result ≡ word pixel }
+    requires { is_sane 4095 pixel ≡ true }
+    ensures { result ≡ pixel_word pixel }
 {
     match pixel {
         Pixel::Marching { .. } => 0,
@@ -111,7 +109,7 @@ const HEAD: usize = 2;
 /// Writes the image: its start, far, and a word for each pixel.
 fn put_image(pixels: &[Pixel], view: View, out: &mut [u8])
     requires room { (length pixels.now ≤ 4096) × (4 * (2 + length pixels.now) ≤ length out.old) }
-    requires sound { all_sane view.far pixels.now ≡ true }
+    requires sound { are_sane view.far pixels.now ≡ true }
     ensures { out.new ≡ image view pixels.now ++ drop (4 * (2 + length pixels.now)) out.old }
 {
     let start = Kind::Image.word(view.width() * FIRST_OF_TWO + view.height());

@@ -5,8 +5,8 @@ use Rattle.solid.specs.Body.{Body}
 use Rattle.march.specs.declared.pixel.Pixel.{Pixel}
 use Rattle.march.specs.declared.view.View.{View}
 use Rattle.plate_log.specs.declared.fault.PlateFault.TheVariants.{NoPixel}
-use Rattle.plate_log.specs.Log.{Call, Line, Answer, sweeping, touching, reading, writing, told, refused, line, play, has, pixel_in}
-use Rattle.plate_log.specs.Fair.{Inside}
+use Rattle.plate_log.specs.Log.{Call, Line, Answer, sweeping, touching, reading, writing, read_as, refused, line_of, play, has_pixel, pixel_in}
+use Rattle.plate_log.specs.Lines.{Inside}
 use Rattle.plate_log.specs.Law.{Brought, to_sweep, to_touch, later}
 use Rattle.plate_log.proofs.Lines.{has_parts}
 
@@ -31,11 +31,11 @@ brought_none x = elim x as (λ ls _. elim ls [ [] ↦ ⊥ | ◌∷◌ l ls ↦ U
 
 pub carried : (v : View) (b : Body) (cs : List Call) (ps : List Pixel) → Brought b (play v ps cs) → Carried b cs
 carried v b [] ps x = brought_none x
-carried v b (c ∷ cs) ps x = elim (brought_cases x) [ inl e ↦ inl e | inr y ↦ inr (carried v b cs (line v ps c).1 y) ]
+carried v b (c ∷ cs) ps x = elim (brought_cases x) [ inl e ↦ inl e | inr y ↦ inr (carried v b cs (line_of v ps c).1 y) ]
 
 -- what a read told is the pixel as it stands
-pub told_is : (v : View) (ps : List Pixel) (i j : ℕ) (q : Pixel) → (line v ps (reading i j)).0 ≡ told q → Inside v i j × (q ≡ pixel_in v ps i j)
+pub told_is : (v : View) (ps : List Pixel) (i j : ℕ) (q : Pixel) → (line_of v ps (reading i j)).0 ≡ read_as q → Inside v i j × (q ≡ pixel_in v ps i j)
 told_is v ps i j q =
-    cond_both (has v i j) (told (pixel_in v ps i j), ps) (refused NoPixel, ps) (λ (r : Answer × List Pixel). r.0 ≡ told q → Inside v i j × (q ≡ pixel_in v ps i j))
+    cond_both (has_pixel v i j) (read_as (pixel_in v ps i j), ps) (refused NoPixel, ps) (λ (r : Answer × List Pixel). r.0 ≡ read_as q → Inside v i j × (q ≡ pixel_in v ps i j))
     (λ h e. (has_parts v i j h, cc))
     (λ _ e. let z : ◌≡◌ {A = ℕ} 0 1 = cc in absurd (omega arith))

@@ -5,51 +5,51 @@ use Rattle.solid.specs.Body.{Body}
 use Rattle.march.specs.declared.pixel.Pixel.{Pixel}
 use Rattle.march.specs.declared.pixel.Pixel.TheVariants.{Marching}
 use Rattle.march.specs.declared.view.View.{View}
-use Rattle.march.specs.March.{stepped, settled, marches}
-use Rattle.march.proofs.Ray.{settled_keeps}
-use Rattle.plate_log.specs.Sweep.{past, swept, marching}
-use Rattle.plate_log.specs.Log.{Call, Line, Answer, sweeping, touching, reading, writing, counted, told, wrote, refused, line, play, last_of, along_ray, has, place, deep}
+use Rattle.march.specs.March.{after_probe, settle, marches}
+use Rattle.march.proofs.RaySteps.{settled_keeps}
+use Rattle.plate_log.specs.Sweep.{past_the_end, sweep, count_marching}
+use Rattle.plate_log.specs.Log.{Call, Line, Answer, sweeping, touching, reading, writing, counted, read_as, wrote, refused, line_of, play, pixels_after_lines, clear_on_ray, has_pixel, place_of, is_deep}
 use Rattle.plate_log.specs.Law.{Brought, to_sweep, to_touch, later}
 
 -- what a line did to the pixels
 abbrev pub swept_by : View → Body → ℕ → List Pixel → List Pixel × ℕ
-swept_by v b budget ps = swept (along_ray v b) v.far budget 0 ps
+swept_by v b budget ps = sweep (clear_on_ray v b) v.far budget 0 ps
 
 abbrev pub touched_by : View → Body → ℕ → ℕ → List Pixel → Pixel × ℕ
-touched_by v b k budget ps = settled (along_ray v b k) v.far budget (get_or ps k past)
+touched_by v b k budget ps = settle (clear_on_ray v b k) v.far budget (get_or ps k past_the_end)
 
 -- an answer of no probes
 abbrev pub Quiet : Answer → Type 0
 Quiet (counted s l) = ⊥
-Quiet (told p) = Unit {0}
+Quiet (read_as p) = Unit {0}
 Quiet (wrote n bs) = Unit {0}
 Quiet (refused f) = Unit {0}
 
 pub data Did (v : View) (ps : List Pixel) : Call → Answer × List Pixel → Type 0 where
-  swept_all : {b : Body} {budget : ℕ} → 32767 ≤ b.reach → Did v ps (sweeping b budget) (counted (budget - (swept_by v b budget ps).1) (marching (swept_by v b budget ps).0), (swept_by v b budget ps).0)
-  touched_one : {i j : ℕ} {b : Body} {budget : ℕ} → 32767 ≤ b.reach → Did v ps (touching i j b budget) (counted (budget - (touched_by v b (place v i j) budget ps).1) (cond (marches (touched_by v b (place v i j) budget ps).0) 1 0), set ps (place v i j) (touched_by v b (place v i j) budget ps).0)
+  swept_all : {b : Body} {budget : ℕ} → 32767 ≤ b.reach → Did v ps (sweeping b budget) (counted (budget - (swept_by v b budget ps).1) (count_marching (swept_by v b budget ps).0), (swept_by v b budget ps).0)
+  touched_one : {i j : ℕ} {b : Body} {budget : ℕ} → 32767 ≤ b.reach → Did v ps (touching i j b budget) (counted (budget - (touched_by v b (place_of v i j) budget ps).1) (cond (marches (touched_by v b (place_of v i j) budget ps).0) 1 0), set ps (place_of v i j) (touched_by v b (place_of v i j) budget ps).0)
   nothing : {c : Call} {a : Answer} → Quiet a → Did v ps c (a, ps)
 
-pub did : (v : View) (ps : List Pixel) (c : Call) → Did v ps c (line v ps c)
+pub did : (v : View) (ps : List Pixel) (c : Call) → Did v ps c (line_of v ps c)
 did v ps (sweeping b budget) =
-    cond_both (deep b) _ _ (Did v ps (sweeping b budget)) (λ e. swept_all (leb-true 32767 b.reach e)) (λ _. nothing tt)
+    cond_both (is_deep b) _ _ (Did v ps (sweeping b budget)) (λ e. swept_all (leb-true 32767 b.reach e)) (λ _. nothing tt)
 did v ps (touching i j b budget) =
-    cond_both (has v i j) _ _ (Did v ps (touching i j b budget))
-    (λ _. cond_both (deep b) _ _ (Did v ps (touching i j b budget)) (λ e. touched_one (leb-true 32767 b.reach e)) (λ _. nothing tt))
+    cond_both (has_pixel v i j) _ _ (Did v ps (touching i j b budget))
+    (λ _. cond_both (is_deep b) _ _ (Did v ps (touching i j b budget)) (λ e. touched_one (leb-true 32767 b.reach e)) (λ _. nothing tt))
     (λ _. nothing tt)
-did v ps (reading i j) = cond_both (has v i j) _ _ (Did v ps (reading i j)) (λ _. nothing tt) (λ _. nothing tt)
+did v ps (reading i j) = cond_both (has_pixel v i j) _ _ (Did v ps (reading i j)) (λ _. nothing tt) (λ _. nothing tt)
 did v ps (writing room) =
-    cond_both (eqb (marching ps) 0) _ _ (Did v ps (writing room))
+    cond_both (eqb (count_marching ps) 0) _ _ (Did v ps (writing room))
     (λ _. cond_both (leb (4 * (2 + length ps)) room) _ _ (Did v ps (writing room)) (λ _. nothing tt) (λ _. nothing tt))
     (λ _. nothing tt)
 
 -- one pixel of the list
-pub swept_keeps : (P : Pixel → Type 0) (clear : ℕ → ℕ → ℕ) (far j k : ℕ) → ((i : ℕ) → i ≡ j + k → (t n : ℕ) → P (Marching t n) → P (stepped far t n (clear i t))) → (budget : ℕ) (ps : List Pixel) → P (get_or ps k past) → P (get_or (swept clear far budget j ps).0 k past)
+pub swept_keeps : (P : Pixel → Type 0) (clear : ℕ → ℕ → ℕ) (far j k : ℕ) → ((i : ℕ) → i ≡ j + k → (t n : ℕ) → P (Marching t n) → P (after_probe far t n (clear i t))) → (budget : ℕ) (ps : List Pixel) → P (get_or ps k past_the_end) → P (get_or (sweep clear far budget j ps).0 k past_the_end)
 swept_keeps P clear far j k step budget [] h = h
 swept_keeps P clear far j zero step budget (p ∷ ps) h = settled_keeps P (clear j) far (step j (omega arith)) budget p h
-swept_keeps P clear far j (suc k) step budget (p ∷ ps) h = swept_keeps P clear far (j + 1) k (λ i e. step i (omega arith)) (settled (clear j) far budget p).1 ps h
+swept_keeps P clear far j (suc k) step budget (p ∷ ps) h = swept_keeps P clear far (j + 1) k (λ i e. step i (omega arith)) (settle (clear j) far budget p).1 ps h
 
-pub set_keeps : (P : Pixel → Type 0) (ps : List Pixel) (i k : ℕ) (x : Pixel) → (i ≡ k → P x) → P (get_or ps k past) → P (get_or (set ps i x) k past)
+pub set_keeps : (P : Pixel → Type 0) (ps : List Pixel) (i k : ℕ) (x : Pixel) → (i ≡ k → P x) → P (get_or ps k past_the_end) → P (get_or (set ps i x) k past_the_end)
 set_keeps P [] i k x new h = h
 set_keeps P (p ∷ ps) zero zero x new h = new refl
 set_keeps P (p ∷ ps) zero (suc k) x new h = h
@@ -58,32 +58,32 @@ set_keeps P (p ∷ ps) (suc i) (suc k) x new h = set_keeps P ps i k x (λ e. new
 
 -- one pixel over a log whose bodies, brought to accepted calls, are Good
 module _ (v : View) (k : ℕ) (P : Pixel → Type 0) (Good : Body → Type 0)
-    (step : (b : Body) → Good b → 32767 ≤ b.reach → (t n : ℕ) → P (Marching t n) → P (stepped v.far t n (along_ray v b k t))) where
-  at_index : (b : Body) → Good b → 32767 ≤ b.reach → (i : ℕ) → k ≡ i → (t n : ℕ) → P (Marching t n) → P (stepped v.far t n (along_ray v b i t))
-  at_index b g d i e = subst (λ (i : ℕ). (t n : ℕ) → P (Marching t n) → P (stepped v.far t n (along_ray v b i t))) e (step b g d)
+    (step : (b : Body) → Good b → 32767 ≤ b.reach → (t n : ℕ) → P (Marching t n) → P (after_probe v.far t n (clear_on_ray v b k t))) where
+  at_index : (b : Body) → Good b → 32767 ≤ b.reach → (i : ℕ) → k ≡ i → (t n : ℕ) → P (Marching t n) → P (after_probe v.far t n (clear_on_ray v b i t))
+  at_index b g d i e = subst (λ (i : ℕ). (t n : ℕ) → P (Marching t n) → P (after_probe v.far t n (clear_on_ray v b i t))) e (step b g d)
 
   line_keeps : (ps : List Pixel) (ls : List Line) (c : Call) (r : Answer × List Pixel) → Did v ps c r
       → ((b : Body) → Brought b (record { call = c; answer = r.0; after = r.1 } ∷ ls) → Good b)
-      → P (get_or ps k past) → P (get_or r.1 k past)
+      → P (get_or ps k past_the_end) → P (get_or r.1 k past_the_end)
   line_keeps ps ls _ _ (swept_all {b} {budget} deep-b) good h =
-      swept_keeps P (along_ray v b) v.far 0 k (λ i e. at_index b (good b to_sweep) deep-b i (omega arith)) budget ps h
+      swept_keeps P (clear_on_ray v b) v.far 0 k (λ i e. at_index b (good b to_sweep) deep-b i (omega arith)) budget ps h
   line_keeps ps ls _ _ (touched_one {i} {j} {b} {budget} deep-b) good h =
-      set_keeps P ps (place v i j) k (touched_by v b (place v i j) budget ps).0
-      (λ e. settled_keeps P (along_ray v b (place v i j)) v.far (at_index b (good b to_touch) deep-b (place v i j) (sym e)) budget (get_or ps (place v i j) past) (rw e h)) h
+      set_keeps P ps (place_of v i j) k (touched_by v b (place_of v i j) budget ps).0
+      (λ e. settled_keeps P (clear_on_ray v b (place_of v i j)) v.far (at_index b (good b to_touch) deep-b (place_of v i j) (sym e)) budget (get_or ps (place_of v i j) past_the_end) (rw e h)) h
   line_keeps ps ls _ _ (nothing q) good h = h
 
-  pub log_keeps : (cs : List Call) (ps : List Pixel) → ((b : Body) → Brought b (play v ps cs) → Good b) → P (get_or ps k past) → P (get_or (last_of ps (play v ps cs)) k past)
+  pub log_keeps : (cs : List Call) (ps : List Pixel) → ((b : Body) → Brought b (play v ps cs) → Good b) → P (get_or ps k past_the_end) → P (get_or (pixels_after_lines ps (play v ps cs)) k past_the_end)
   log_keeps [] ps good h = h
   log_keeps (c ∷ cs) ps good h =
-      log_keeps cs (line v ps c).1 (λ b x. good b (later x)) (line_keeps ps (play v (line v ps c).1 cs) c (line v ps c) (did v ps c) good h)
+      log_keeps cs (line_of v ps c).1 (λ b x. good b (later x)) (line_keeps ps (play v (line_of v ps c).1 cs) c (line_of v ps c) (did v ps c) good h)
 
 -- calls and then more
-pub play_more : (v : View) (cs more : List Call) (ps : List Pixel) → last_of ps (play v ps (cs ++ more)) ≡ last_of (last_of ps (play v ps cs)) (play v (last_of ps (play v ps cs)) more)
+pub play_more : (v : View) (cs more : List Call) (ps : List Pixel) → pixels_after_lines ps (play v ps (cs ++ more)) ≡ pixels_after_lines (pixels_after_lines ps (play v ps cs)) (play v (pixels_after_lines ps (play v ps cs)) more)
 play_more v [] more ps = refl
-play_more v (c ∷ cs) more ps = play_more v cs more (line v ps c).1
+play_more v (c ∷ cs) more ps = play_more v cs more (line_of v ps c).1
 
-pub play_append : (v : View) (cs more : List Call) (ps : List Pixel) → play v ps (cs ++ more) ≡ play v ps cs ++ play v (last_of ps (play v ps cs)) more
+pub play_append : (v : View) (cs more : List Call) (ps : List Pixel) → play v ps (cs ++ more) ≡ play v ps cs ++ play v (pixels_after_lines ps (play v ps cs)) more
 play_append v [] more ps = refl
 play_append v (c ∷ cs) more ps =
-    let l = line v ps c in
+    let l = line_of v ps c in
     ap (λ (ls : List Line). record { call = c; answer = l.0; after = l.1 } ∷ ls) (play_append v cs more l.1)

@@ -10,25 +10,25 @@ use Rattle.solid.specs.Body.{Body}
 use Rattle.march.specs.declared.pixel.Pixel.{Pixel}
 use Rattle.march.specs.declared.view.View.{View}
 use Rattle.lattice.specs.declared.direction.Direction.{Direction}
-use Rattle.march.specs.declared.rays.Ray.{Ray}
-use Rattle.march.specs.declared.view.PixelFault.{PixelFault}
-use Rattle.march.specs.View.{along, start, line, line_in, line_answer, has, clear_along}
-use Rattle.march.specs.March.{fresh, sane, after_step, settled, marches}
-use Rattle.march.proofs.Ray.{settled_stays, settled_after}
-use Rattle.plate_log.specs.Sweep.{all_sane, swept}
-use Rattle.plate_log.specs.Log.{area, place, clear_at, along_ray}
+use Rattle.march.specs.declared.ray.Ray.{Ray}
+use Rattle.march.specs.declared.fault.PixelFault.{PixelFault}
+use Rattle.march.specs.View.{along, start, ray_parts, ray_parts_in, ray_parts_answer, has_pixel, clear_along}
+use Rattle.march.specs.March.{new_pixel, is_sane, after_step, settle, marches}
+use Rattle.march.proofs.RaySteps.{settled_stays, settled_after}
+use Rattle.plate_log.specs.Sweep.{are_sane, sweep}
+use Rattle.plate_log.specs.Log.{area, place_of, clear_at, clear_on_ray}
 use Rattle.plate_log.proofs.Place.{from_pixel}
 use Rattle.plate_log.proofs.Steps.{swept_none}
 use Rattle.plate_log.proofs.Sums.{swept_length}
 
 -- one pixel
-module _ (clear : ℕ → ℕ) (far spent budget : ℕ) (p : Pixel) (goal : Pixel × ℕ) (so_far : settled clear far (budget - spent) p ≡ goal) where
+module _ (clear : ℕ → ℕ) (far spent budget : ℕ) (p : Pixel) (goal : Pixel × ℕ) (so_far : settle clear far (budget - spent) p ≡ goal) where
   -- it takes a step
-  pub step_on : marches p ≡ true → sane far p ≡ true → spent < budget → settled clear far (budget - (spent + 1)) (after_step clear far p) ≡ goal
+  pub step_on : marches p ≡ true → is_sane far p ≡ true → spent < budget → settle clear far (budget - (spent + 1)) (after_step clear far p) ≡ goal
   step_on m s l =
       let b = budget - (spent + 1) in
       let more : suc b ≡ budget - spent = omega arith in
-      settled_after clear far b p m s ∙ ap (λ (c : ℕ). settled clear far c p) more ∙ so_far
+      settled_after clear far b p m s ∙ ap (λ (c : ℕ). settle clear far c p) more ∙ so_far
 
   -- it has settled
   pub stays_on : marches p ≡ false → ◌≡◌ {A = Pixel × ℕ} (p, budget - spent) goal
@@ -38,7 +38,7 @@ module _ (clear : ℕ → ℕ) (far spent budget : ℕ) (p : Pixel) (goal : Pixe
   pub spent_on : spent ≡ budget → ◌≡◌ {A = Pixel × ℕ} (p, budget - spent) goal
   spent_on e =
       let z : budget - spent ≡ 0 = omega arith in
-      ap (λ (b : ℕ). (p, b)) z ∙ sym (ap (λ (b : ℕ). settled clear far b p) z) ∙ so_far
+      ap (λ (b : ℕ). (p, b)) z ∙ sym (ap (λ (b : ℕ). settle clear far b p) z) ∙ so_far
 
 -- the budget as the code counts it: what is spent
 pub counted_spent : {A : Type 0} (x : A) (spent budget : ℕ) (goal : A × ℕ) → spent ≤ budget → ◌≡◌ {A = A × ℕ} (x, budget - spent) goal → (x ≡ goal.0) × (spent ≡ budget - goal.1)
@@ -49,54 +49,54 @@ abbrev joined : List Pixel → List Pixel × ℕ → List Pixel × ℕ
 joined front s = (front ++ s.0, s.1)
 
 module _ (clear : ℕ → ℕ → ℕ) (far : ℕ) where
-  swept_append : (b k : ℕ) (ps qs : List Pixel) → swept clear far b k (ps ++ qs) ≡ (let s = swept clear far b k ps in joined s.0 (swept clear far s.1 (k + length ps) qs))
-  swept_append b k [] qs = ap (λ (j : ℕ). swept clear far b j qs) (sym (add-zero k))
+  swept_append : (b k : ℕ) (ps qs : List Pixel) → sweep clear far b k (ps ++ qs) ≡ (let s = sweep clear far b k ps in joined s.0 (sweep clear far s.1 (k + length ps) qs))
+  swept_append b k [] qs = ap (λ (j : ℕ). sweep clear far b j qs) (sym (add-zero k))
   swept_append b k (p ∷ ps) qs =
-      let s = settled (clear k) far b p in
-      let r = swept clear far s.1 (k + 1) ps in
+      let s = settle (clear k) far b p in
+      let r = sweep clear far s.1 (k + 1) ps in
       let e : k + 1 + length ps ≡ k + suc (length ps) = omega arith in
-      ap (joined (s.0 ∷ [])) (swept_append s.1 (k + 1) ps qs) ∙ ap (λ (j : ℕ). joined (s.0 ∷ r.0) (swept clear far r.1 j qs)) e
+      ap (joined (s.0 ∷ [])) (swept_append s.1 (k + 1) ps qs) ∙ ap (λ (j : ℕ). joined (s.0 ∷ r.0) (sweep clear far r.1 j qs)) e
 
   abbrev pub onward : ℕ → ℕ → List Pixel → List Pixel × ℕ
-  onward k b rs = joined (take k rs) (swept clear far b k (drop k rs))
+  onward k b rs = joined (take k rs) (sweep clear far b k (drop k rs))
 
   abbrev after : ℕ → List Pixel → Pixel × ℕ → List Pixel × ℕ
-  after k t w = (w.0 ∷ (swept clear far w.1 (k + 1) t).0, (swept clear far w.1 (k + 1) t).1)
+  after k t w = (w.0 ∷ (sweep clear far w.1 (k + 1) t).0, (sweep clear far w.1 (k + 1) t).1)
 
   -- the pixel at k has come as far as the budget goes
-  pub next : (k b left : ℕ) (rs : List Pixel) (q : Pixel) (goal : List Pixel × ℕ) → k < length rs → ◌≡◌ {A = Pixel × ℕ} (q, left) (settled (clear k) far b (get_or rs k fresh)) → onward k b rs ≡ goal → onward (k + 1) left (set rs k q) ≡ goal
+  pub next : (k b left : ℕ) (rs : List Pixel) (q : Pixel) (goal : List Pixel × ℕ) → k < length rs → ◌≡◌ {A = Pixel × ℕ} (q, left) (settle (clear k) far b (get_or rs k new_pixel)) → onward k b rs ≡ goal → onward (k + 1) left (set rs k q) ≡ goal
   next k b left rs q goal h e p =
       let rest = drop (k + 1) rs in
-      let s = swept clear far left (k + 1) rest in
-      ap (λ l. joined l (swept clear far left (k + 1) (drop (k + 1) (set rs k q)))) (take_more_set rs k q h)
-      ∙ ap (λ l. joined (take k rs ++ (q ∷ [])) (swept clear far left (k + 1) l)) (drop-set-lt (k + 1) rs k q (omega arith))
+      let s = sweep clear far left (k + 1) rest in
+      ap (λ l. joined l (sweep clear far left (k + 1) (drop (k + 1) (set rs k q)))) (take_more_set rs k q h)
+      ∙ ap (λ l. joined (take k rs ++ (q ∷ [])) (sweep clear far left (k + 1) l)) (drop-set-lt (k + 1) rs k q (omega arith))
       ∙ ap (λ l. (l, s.1)) (append_assoc (take k rs) (q ∷ []) s.0)
       ∙ ap (λ z. joined (take k rs) (after k rest z)) e
-      ∙ ap (λ l. joined (take k rs) (swept clear far b k l)) (sym (drop_more rs k fresh h))
+      ∙ ap (λ l. joined (take k rs) (sweep clear far b k l)) (sym (drop_more rs k new_pixel h))
       ∙ p
 
   -- and so has each of the n pixels from k on
-  pub next_row : (k n b left : ℕ) (rs qs : List Pixel) (goal : List Pixel × ℕ) → k + n ≤ length rs → ◌≡◌ {A = List Pixel × ℕ} (qs, left) (swept clear far b k (take n (drop k rs))) → onward k b rs ≡ goal → onward (k + n) left (put_mid k n rs qs) ≡ goal
+  pub next_row : (k n b left : ℕ) (rs qs : List Pixel) (goal : List Pixel × ℕ) → k + n ≤ length rs → ◌≡◌ {A = List Pixel × ℕ} (qs, left) (sweep clear far b k (take n (drop k rs))) → onward k b rs ≡ goal → onward (k + n) left (put_mid k n rs qs) ≡ goal
   next_row k n b left rs qs goal h e p =
       let row = take n (drop k rs) in
       let rest = drop (k + n) rs in
       let wide : length row ≡ n = length-take-le n (drop k rs) (omega (arith, length-drop k rs)) in
       let long : length qs ≡ n = ap (λ (s : List Pixel × ℕ). length s.0) e ∙ swept_length clear far b k row ∙ wide in
-      let s = swept clear far left (k + n) rest in
+      let s = sweep clear far left (k + n) rest in
       let split : row ++ rest ≡ drop k rs = ap (λ l. row ++ l) (sym (drop-drop n k rs)) ∙ take-append-drop n (drop k rs) in
-      ap (λ l. joined l (swept clear far left (k + n) (drop (k + n) (put_mid k n rs qs)))) (take-put_mid k n rs qs (k + n) (omega arith) (omega arith))
-      ∙ ap (λ l. joined (take k rs ++ qs) (swept clear far left (k + n) l)) (drop-put_mid k n rs qs (k + n) (omega arith) (omega arith) long)
+      ap (λ l. joined l (sweep clear far left (k + n) (drop (k + n) (put_mid k n rs qs)))) (take-put_mid k n rs qs (k + n) (omega arith) (omega arith))
+      ∙ ap (λ l. joined (take k rs ++ qs) (sweep clear far left (k + n) l)) (drop-put_mid k n rs qs (k + n) (omega arith) (omega arith) long)
       ∙ ap (λ l. (l, s.1)) (append_assoc (take k rs) qs s.0)
-      ∙ ap (λ (z : List Pixel × ℕ). joined (take k rs) (joined z.0 (swept clear far z.1 (k + n) rest))) e
-      ∙ ap (λ (j : ℕ). let z = swept clear far b k row in joined (take k rs) (joined z.0 (swept clear far z.1 (k + j) rest))) (sym wide)
+      ∙ ap (λ (z : List Pixel × ℕ). joined (take k rs) (joined z.0 (sweep clear far z.1 (k + n) rest))) e
+      ∙ ap (λ (j : ℕ). let z = sweep clear far b k row in joined (take k rs) (joined z.0 (sweep clear far z.1 (k + j) rest))) (sym wide)
       ∙ ap (joined (take k rs)) (sym (swept_append b k row rest))
-      ∙ ap (λ l. joined (take k rs) (swept clear far b k l)) split
+      ∙ ap (λ l. joined (take k rs) (sweep clear far b k l)) split
       ∙ p
 
   -- every pixel has
   pub no_more : (k b : ℕ) (rs : List Pixel) (goal : List Pixel × ℕ) → length rs ≤ k → onward k b rs ≡ goal → ◌≡◌ {A = List Pixel × ℕ} (rs, b) goal
   no_more k b rs goal h p =
-      sym (ap (λ l. joined (take k rs) (swept clear far b k l)) (drop_all k rs h) ∙ ap (λ l. (l, b)) (append-nil (take k rs) ∙ take_all k rs h)) ∙ p
+      sym (ap (λ l. joined (take k rs) (sweep clear far b k l)) (drop_all k rs h) ∙ ap (λ l. (l, b)) (append-nil (take k rs) ∙ take_all k rs h)) ∙ p
 
   -- the budget is spent
   pub no_budget : (k b : ℕ) (rs : List Pixel) (goal : List Pixel × ℕ) → b ≡ 0 → onward k b rs ≡ goal → ◌≡◌ {A = List Pixel × ℕ} (rs, b) goal
@@ -109,14 +109,14 @@ module _ (clear : ℕ → ℕ → ℕ) (far : ℕ) where
 abbrev pub along_row : View → Body → (j i t : ℕ) → ℕ
 along_row v b j i t = clear_at v b i j t
 
-pub row_swept : (v : View) (b : Body) (j i budget : ℕ) (ps : List Pixel) → i + length ps ≤ v.width → swept (along_row v b j) v.far budget i ps ≡ swept (along_ray v b) v.far budget (place v i j) ps
+pub row_swept : (v : View) (b : Body) (j i budget : ℕ) (ps : List Pixel) → i + length ps ≤ v.width → sweep (along_row v b j) v.far budget i ps ≡ sweep (clear_on_ray v b) v.far budget (place_of v i j) ps
 row_swept v b j i budget [] h = refl
 row_swept v b j i budget (p ∷ ps) h =
-    let same : clear_at v b i j ≡ along_ray v b (place v i j) = from_pixel (λ x y. clear_at v b i j ≡ clear_at v b x y) v i j (omega arith) refl in
-    let s = settled (along_ray v b (place v i j)) v.far budget p in
-    let e : place v (i + 1) j ≡ place v i j + 1 = omega arith in
-    ap (λ (c : ℕ → ℕ). let s = settled c v.far budget p in let r = swept (along_row v b j) v.far s.1 (i + 1) ps in (s.0 ∷ r.0, r.1)) same
-    ∙ ap (λ (r : List Pixel × ℕ). (s.0 ∷ r.0, r.1)) (row_swept v b j (i + 1) s.1 ps (omega arith) ∙ ap (λ (k : ℕ). swept (along_ray v b) v.far s.1 k ps) e)
+    let same : clear_at v b i j ≡ clear_on_ray v b (place_of v i j) = from_pixel (λ x y. clear_at v b i j ≡ clear_at v b x y) v i j (omega arith) refl in
+    let s = settle (clear_on_ray v b (place_of v i j)) v.far budget p in
+    let e : place_of v (i + 1) j ≡ place_of v i j + 1 = omega arith in
+    ap (λ (c : ℕ → ℕ). let s = settle c v.far budget p in let r = sweep (along_row v b j) v.far s.1 (i + 1) ps in (s.0 ∷ r.0, r.1)) same
+    ∙ ap (λ (r : List Pixel × ℕ). (s.0 ∷ r.0, r.1)) (row_swept v b j (i + 1) s.1 ps (omega arith) ∙ ap (λ (k : ℕ). sweep (clear_on_ray v b) v.far s.1 k ps) e)
 
 -- row j of the pixels, which starts at k and is as long as the view is wide
 module _ (v : View) (j k n : ℕ) (ps : List Pixel) (all : length ps ≡ area v) (hj : j < v.height) (starts : k ≡ j * v.width) (wide : n ≡ v.width) where
@@ -128,56 +128,56 @@ module _ (v : View) (j k n : ℕ) (ps : List Pixel) (all : length ps ≡ area v)
 
   -- each pixel of the row has come as far as the budget goes
   pub row_done : (b : Body) (budget left : ℕ) (qs : List Pixel) (goal : List Pixel × ℕ)
-      → ◌≡◌ {A = List Pixel × ℕ} (qs, left) (swept (along_row v b j) v.far budget 0 (take n (drop k ps)))
-      → onward (along_ray v b) v.far (j * v.width) budget ps ≡ goal → onward (along_ray v b) v.far ((j + 1) * v.width) left (put_mid k n ps qs) ≡ goal
+      → ◌≡◌ {A = List Pixel × ℕ} (qs, left) (sweep (along_row v b j) v.far budget 0 (take n (drop k ps)))
+      → onward (clear_on_ray v b) v.far (j * v.width) budget ps ≡ goal → onward (clear_on_ray v b) v.far ((j + 1) * v.width) left (put_mid k n ps qs) ≡ goal
   row_done b budget left qs goal e p =
       let row = take n (drop k ps) in
       let on : (j + 1) * v.width ≡ k + n = omega arith in
-      ap (λ (x : ℕ). onward (along_ray v b) v.far x left (put_mid k n ps qs)) on
-      ∙ next_row (along_ray v b) v.far k n budget left ps qs goal row_ends
-      (e ∙ row_swept v b j 0 budget row (omega (arith, row_long)) ∙ ap (λ (x : ℕ). swept (along_ray v b) v.far budget x row) (add-zero (j * v.width) ∙ sym starts))
-      (ap (λ (x : ℕ). onward (along_ray v b) v.far x budget ps) starts ∙ p)
+      ap (λ (x : ℕ). onward (clear_on_ray v b) v.far x left (put_mid k n ps qs)) on
+      ∙ next_row (clear_on_ray v b) v.far k n budget left ps qs goal row_ends
+      (e ∙ row_swept v b j 0 budget row (omega (arith, row_long)) ∙ ap (λ (x : ℕ). sweep (clear_on_ray v b) v.far budget x row) (add-zero (j * v.width) ∙ sym starts))
+      (ap (λ (x : ℕ). onward (clear_on_ray v b) v.far x budget ps) starts ∙ p)
 
 -- the pixels of a list and of its parts
 module _ (far : ℕ) where
-  sane_both : (ps qs : List Pixel) → all_sane far (ps ++ qs) ≡ true → (all_sane far ps ≡ true) × (all_sane far qs ≡ true)
+  sane_both : (ps qs : List Pixel) → are_sane far (ps ++ qs) ≡ true → (are_sane far ps ≡ true) × (are_sane far qs ≡ true)
   sane_both [] qs e = (refl, e)
   sane_both (p ∷ ps) qs e =
-      let h = and_parts (sane far p) (all_sane far (ps ++ qs)) e in
+      let h = and_parts (is_sane far p) (are_sane far (ps ++ qs)) e in
       let r = sane_both ps qs h.1 in
-      (and_from (sane far p) (all_sane far ps) h.0 r.0, r.1)
+      (and_from (is_sane far p) (are_sane far ps) h.0 r.0, r.1)
 
-  sane_append : (ps qs : List Pixel) → all_sane far ps ≡ true → all_sane far qs ≡ true → all_sane far (ps ++ qs) ≡ true
+  sane_append : (ps qs : List Pixel) → are_sane far ps ≡ true → are_sane far qs ≡ true → are_sane far (ps ++ qs) ≡ true
   sane_append [] qs e f = f
   sane_append (p ∷ ps) qs e f =
-      let h = and_parts (sane far p) (all_sane far ps) e in
-      and_from (sane far p) (all_sane far (ps ++ qs)) h.0 (sane_append ps qs h.1 f)
+      let h = and_parts (is_sane far p) (are_sane far ps) e in
+      and_from (is_sane far p) (are_sane far (ps ++ qs)) h.0 (sane_append ps qs h.1 f)
 
-  sane_split : (n : ℕ) (rs : List Pixel) → all_sane far rs ≡ true → (all_sane far (take n rs) ≡ true) × (all_sane far (drop n rs) ≡ true)
-  sane_split n rs e = sane_both (take n rs) (drop n rs) (ap (all_sane far) (take-append-drop n rs) ∙ e)
+  sane_split : (n : ℕ) (rs : List Pixel) → are_sane far rs ≡ true → (are_sane far (take n rs) ≡ true) × (are_sane far (drop n rs) ≡ true)
+  sane_split n rs e = sane_both (take n rs) (drop n rs) (ap (are_sane far) (take-append-drop n rs) ∙ e)
 
-  pub sane_row : (k n : ℕ) (rs : List Pixel) → all_sane far rs ≡ true → all_sane far (take n (drop k rs)) ≡ true
+  pub sane_row : (k n : ℕ) (rs : List Pixel) → are_sane far rs ≡ true → are_sane far (take n (drop k rs)) ≡ true
   sane_row k n rs e = (sane_split n (drop k rs) (sane_split k rs e).1).0
 
-  pub sane_put : (k n : ℕ) (rs qs : List Pixel) → k + n ≤ length rs → length qs ≡ n → all_sane far rs ≡ true → all_sane far qs ≡ true → all_sane far (put_mid k n rs qs) ≡ true
+  pub sane_put : (k n : ℕ) (rs qs : List Pixel) → k + n ≤ length rs → length qs ≡ n → are_sane far rs ≡ true → are_sane far qs ≡ true → are_sane far (put_mid k n rs qs) ≡ true
   sane_put k n rs qs h l e f =
-      ap (all_sane far) (sym (take-append-drop (k + n) (put_mid k n rs qs)))
+      ap (are_sane far) (sym (take-append-drop (k + n) (put_mid k n rs qs)))
       ∙ sane_append (take (k + n) (put_mid k n rs qs)) (drop (k + n) (put_mid k n rs qs))
-      (ap (all_sane far) (take-put_mid k n rs qs (k + n) (omega arith) (omega arith)) ∙ sane_append (take k rs) qs (sane_split k rs e).0 f)
-      (ap (all_sane far) (drop-put_mid k n rs qs (k + n) (omega arith) (omega arith) l) ∙ (sane_split (k + n) rs e).1)
+      (ap (are_sane far) (take-put_mid k n rs qs (k + n) (omega arith) (omega arith)) ∙ sane_append (take k rs) qs (sane_split k rs e).0 f)
+      (ap (are_sane far) (drop-put_mid k n rs qs (k + n) (omega arith) (omega arith) l) ∙ (sane_split (k + n) rs e).1)
 
 -- the ray of pixel (i, j)
-module _ (v : View) (i j : ℕ) (hi : i < v.width) (hj : j < v.height) (o : Result Ray PixelFault) (is : line_in o ≡ line_answer v i j) where
-  is_line : line_in o ≡ Ok (start v i j, v.ray, v.far)
-  is_line = is ∙ cond-true (has v i j) _ _ (and_from (ltb i v.width) (ltb j v.height) (lt-ltb i v.width hi) (lt-ltb j v.height hj))
+module _ (v : View) (i j : ℕ) (hi : i < v.width) (hj : j < v.height) (o : Result Ray PixelFault) (is : ray_parts_in o ≡ ray_parts_answer v i j) where
+  is_line : ray_parts_in o ≡ Ok (start v i j, v.ray, v.far)
+  is_line = is ∙ cond-true (has_pixel v i j) _ _ (and_from (ltb i v.width) (ltb j v.height) (lt-ltb i v.width hi) (lt-ltb j v.height hj))
 
-  pub ray_line : (r : Ray) → o ≡ Ok r → line r ≡ (start v i j, v.ray, v.far)
-  ray_line r e = let q : line_in (Ok r) ≡ Ok (start v i j, v.ray, v.far) = ap line_in (sym e) ∙ is_line in cc
+  pub ray_line : (r : Ray) → o ≡ Ok r → ray_parts r ≡ (start v i j, v.ray, v.far)
+  ray_line r e = let q : ray_parts_in (Ok r) ≡ Ok (start v i j, v.ray, v.far) = ap ray_parts_in (sym e) ∙ is_line in cc
 
 -- its far, and the clearance along it
-pub ray_far : (v : View) (i j : ℕ) (r : Ray) → line r ≡ (start v i j, v.ray, v.far) → r.far ≡ v.far
+pub ray_far : (v : View) (i j : ℕ) (r : Ray) → ray_parts r ≡ (start v i j, v.ray, v.far) → r.far ≡ v.far
 ray_far v i j r e = ap (λ l. l.2) e
 
 -- what it says of a pixel, it says of pixel (i, j)
-pub ray_settled : (v : View) (b : Body) (i j budget : ℕ) (r : Ray) (p : Pixel) → line r ≡ (start v i j, v.ray, v.far) → settled (clear_along b r) r.far budget p ≡ settled (clear_at v b i j) v.far budget p
-ray_settled v b i j budget r p e = ap (λ (l : Point × Direction × ℕ). settled (λ t. b.clear (along l.0 t l.1)) l.2 budget p) e
+pub ray_settled : (v : View) (b : Body) (i j budget : ℕ) (r : Ray) (p : Pixel) → ray_parts r ≡ (start v i j, v.ray, v.far) → settle (clear_along b r) r.far budget p ≡ settle (clear_at v b i j) v.far budget p
+ray_settled v b i j budget r p e = ap (λ (l : Point × Direction × ℕ). settle (λ t. b.clear (along l.0 t l.1)) l.2 budget p) e

@@ -2,10 +2,10 @@
 use Rattle.std.proofs.Common.{◌≡◌, ℕ, ◌*◌, ltb, List, ◌++◌, length, drop, replicate, Ok, Err, Result, ap, arith}
 use Rattle.std.proofs.lemmas.Bool.{cond_both}
 use Rattle.march.specs.declared.pixel.Pixel.{Pixel}
-use Rattle.march.specs.declared.view.ViewFault.{ViewFault}
+use Rattle.march.specs.declared.fault.ViewFault.{ViewFault}
 use Rattle.march.specs.declared.view.ViewNumbers.{ViewNumbers}
 use Rattle.march.specs.Checks.{PlainView, view_answer}
-use Rattle.march.specs.March.{fresh}
+use Rattle.march.specs.March.{new_pixel}
 use Rattle.plate_log.specs.declared.fault.PlateFault.{PlateFault}
 use Rattle.plate_log.specs.declared.fault.PlateFault.TheVariants.{View, TooFewRecords}
 use Rattle.plate_log.specs.Opening.{Opened, opened_by, opening}
@@ -24,7 +24,7 @@ module _ (numbers : ViewNumbers) (old : PlainView) (rs : List Pixel) where
       from : (a : Result PlainView ViewFault) → ◌≡◌ {A = Opened} (Ok tt, v, qs) (opened_by a old rs) → Ok v ≡ a
       from (Err f) e = not_err (View f) old rs e
       from (Ok w) e =
-          cond_both (ltb (length rs) (w.width * w.height)) (Err TooFewRecords, old, rs) (Ok tt, w, replicate (w.width * w.height) fresh ++ drop (w.width * w.height) rs)
+          cond_both (ltb (length rs) (w.width * w.height)) (Err TooFewRecords, old, rs) (Ok tt, w, replicate (w.width * w.height) new_pixel ++ drop (w.width * w.height) rs)
           (λ (o : Opened). ◌≡◌ {A = Opened} (Ok tt, v, qs) o → ◌≡◌ {A = Result PlainView ViewFault} (Ok v) (Ok w))
           (λ _ e. not_err TooFewRecords old rs e)
           (λ _ e. ap (λ (o : Opened). Ok o.1) e) e

@@ -3,18 +3,18 @@ use Rattle.std.proofs.Common.{◌≡◌, ℕ, zero, suc, ◌+◌, ◌-◌, ◌<�
 use Rattle.std.proofs.lemmas.Bool.{both_ways}
 use Rattle.march.specs.declared.pixel.Pixel.{Pixel}
 use Rattle.march.specs.declared.pixel.Pixel.TheVariants.{Marching, Hit, Miss}
-use Rattle.march.specs.March.{stepped, settled, marches}
-use Rattle.plate_log.specs.Sweep.{past, swept}
-use Rattle.plate_log.specs.Fair.{Went, stays, steps}
+use Rattle.march.specs.March.{after_probe, settle, marches}
+use Rattle.plate_log.specs.Sweep.{past_the_end, sweep}
+use Rattle.plate_log.specs.Lines.{Went, stays, steps}
 use Rattle.plate_log.proofs.Sums.{settled_left, settled_rest, swept_rest, one_if}
 use Rattle.plate_log.proofs.Sanity.{none_marching}
 
 -- one pixel takes as many steps as of the budget are gone
-pub settled_went : (clear : ℕ → ℕ) (far b : ℕ) (p : Pixel) (k : ℕ) → k + (settled clear far b p).1 ≡ b → Went clear far k p (settled clear far b p).0
+pub settled_went : (clear : ℕ → ℕ) (far b : ℕ) (p : Pixel) (k : ℕ) → k + (settle clear far b p).1 ≡ b → Went clear far k p (settle clear far b p).0
 settled_went clear far zero p zero e = stays
 settled_went clear far zero p (suc k) e = absurd (omega arith)
-settled_went clear far (suc b) (Marching t n) zero e = absurd (omega (arith, settled_left clear far b (stepped far t n (clear t))))
-settled_went clear far (suc b) (Marching t n) (suc k) e = steps (settled_went clear far b (stepped far t n (clear t)) k (omega arith))
+settled_went clear far (suc b) (Marching t n) zero e = absurd (omega (arith, settled_left clear far b (after_probe far t n (clear t))))
+settled_went clear far (suc b) (Marching t n) (suc k) e = steps (settled_went clear far b (after_probe far t n (clear t)) k (omega arith))
 settled_went clear far (suc b) (Hit d n) zero e = stays
 settled_went clear far (suc b) (Hit d n) (suc k) e = absurd (omega arith)
 settled_went clear far (suc b) (Miss n) zero e = stays
@@ -24,39 +24,39 @@ settled_went clear far (suc b) (Miss n) (suc k) e = absurd (omega arith)
 marching_one : (p : Pixel) → marches p ≡ true → one_if p ≡ 1
 marching_one p e = ap (λ (b : Bool). cond b 1 0) e
 
-pub settled_spent : (clear : ℕ → ℕ) (far b : ℕ) (p : Pixel) → marches (settled clear far b p).0 ≡ true → (settled clear far b p).1 ≡ 0
-settled_spent clear far b p e = from (settled clear far b p).1 refl
+pub settled_spent : (clear : ℕ → ℕ) (far b : ℕ) (p : Pixel) → marches (settle clear far b p).0 ≡ true → (settle clear far b p).1 ≡ 0
+settled_spent clear far b p e = from (settle clear far b p).1 refl
   where
-    from : (l : ℕ) → (settled clear far b p).1 ≡ l → (settled clear far b p).1 ≡ 0
+    from : (l : ℕ) → (settle clear far b p).1 ≡ l → (settle clear far b p).1 ≡ 0
     from zero h = h
-    from (suc l) h = absurd (omega (arith, settled_rest clear far b p (omega arith), marching_one (settled clear far b p).0 e))
+    from (suc l) h = absurd (omega (arith, settled_rest clear far b p (omega arith), marching_one (settle clear far b p).0 e))
 
 -- the pixel at k of a sweep
-pub swept_went : (clear : ℕ → ℕ → ℕ) (far b i k j : ℕ) → i ≡ j + k → (ps : List Pixel) → (n : ℕ) × Went (clear i) far n (get_or ps k past) (get_or (swept clear far b j ps).0 k past)
+pub swept_went : (clear : ℕ → ℕ → ℕ) (far b i k j : ℕ) → i ≡ j + k → (ps : List Pixel) → (n : ℕ) × Went (clear i) far n (get_or ps k past_the_end) (get_or (sweep clear far b j ps).0 k past_the_end)
 swept_went clear far b i k j e [] = (0, stays)
 swept_went clear far b i zero j e (p ∷ ps) =
-    let s = settled (clear j) far b p in
+    let s = settle (clear j) far b p in
     let same : j ≡ i = omega arith in
     let n : ℕ = b - s.1 in
     (n, subst (λ (i : ℕ). Went (clear i) far n p s.0) same (settled_went (clear j) far b p n (omega (arith, settled_left (clear j) far b p))))
-swept_went clear far b i (suc k) j e (p ∷ ps) = swept_went clear far (settled (clear j) far b p).1 i k (j + 1) (omega arith) ps
+swept_went clear far b i (suc k) j e (p ∷ ps) = swept_went clear far (settle (clear j) far b p).1 i k (j + 1) (omega arith) ps
 
-pub swept_spent : (clear : ℕ → ℕ → ℕ) (far b j k : ℕ) (ps : List Pixel) → marches (get_or (swept clear far b j ps).0 k past) ≡ true → (swept clear far b j ps).1 ≡ 0
-swept_spent clear far b j k ps e = from (swept clear far b j ps).1 refl
+pub swept_spent : (clear : ℕ → ℕ → ℕ) (far b j k : ℕ) (ps : List Pixel) → marches (get_or (sweep clear far b j ps).0 k past_the_end) ≡ true → (sweep clear far b j ps).1 ≡ 0
+swept_spent clear far b j k ps e = from (sweep clear far b j ps).1 refl
   where
-    from : (l : ℕ) → (swept clear far b j ps).1 ≡ l → (swept clear far b j ps).1 ≡ 0
+    from : (l : ℕ) → (sweep clear far b j ps).1 ≡ l → (sweep clear far b j ps).1 ≡ 0
     from zero h = h
-    from (suc l) h = absurd (both_ways (marches (get_or (swept clear far b j ps).0 k past)) (none_marching (swept clear far b j ps).0 k (swept_rest clear far b j ps (omega arith))) e)
+    from (suc l) h = absurd (both_ways (marches (get_or (sweep clear far b j ps).0 k past_the_end)) (none_marching (sweep clear far b j ps).0 k (swept_rest clear far b j ps (omega arith))) e)
 
 -- with no budget left nothing changes
-pub swept_none : (clear : ℕ → ℕ → ℕ) (far j : ℕ) (ps : List Pixel) → swept clear far 0 j ps ≡ (ps, 0)
+pub swept_none : (clear : ℕ → ℕ → ℕ) (far j : ℕ) (ps : List Pixel) → sweep clear far 0 j ps ≡ (ps, 0)
 swept_none clear far j [] = refl
 swept_none clear far j (p ∷ ps) = ap (λ (s : List Pixel × ℕ). (p ∷ s.0, s.1)) (swept_none clear far (j + 1) ps)
 
 -- where the pixel at k marches on, those behind it are as they were
-pub swept_order : (clear : ℕ → ℕ → ℕ) (far b j k m : ℕ) (ps : List Pixel) → k < m → marches (get_or (swept clear far b j ps).0 k past) ≡ true → get_or (swept clear far b j ps).0 m past ≡ get_or ps m past
+pub swept_order : (clear : ℕ → ℕ → ℕ) (far b j k m : ℕ) (ps : List Pixel) → k < m → marches (get_or (sweep clear far b j ps).0 k past_the_end) ≡ true → get_or (sweep clear far b j ps).0 m past_the_end ≡ get_or ps m past_the_end
 swept_order clear far b j k m [] lt e = refl
 swept_order clear far b j k zero (p ∷ ps) lt e = absurd (omega arith)
 swept_order clear far b j zero (suc m) (p ∷ ps) lt e =
-    ap (λ (l : ℕ). get_or (swept clear far l (j + 1) ps).0 m past) (settled_spent (clear j) far b p e) ∙ ap (λ (s : List Pixel × ℕ). get_or s.0 m past) (swept_none clear far (j + 1) ps)
-swept_order clear far b j (suc k) (suc m) (p ∷ ps) lt e = swept_order clear far (settled (clear j) far b p).1 (j + 1) k m ps (omega arith) e
+    ap (λ (l : ℕ). get_or (sweep clear far l (j + 1) ps).0 m past_the_end) (settled_spent (clear j) far b p e) ∙ ap (λ (s : List Pixel × ℕ). get_or s.0 m past_the_end) (swept_none clear far (j + 1) ps)
+swept_order clear far b j (suc k) (suc m) (p ∷ ps) lt e = swept_order clear far (settle (clear j) far b p).1 (j + 1) k m ps (omega arith) e

@@ -1,6 +1,6 @@
 -- The log that is worked out.
 use Rattle.std.proofs.Common.{refl}
-use Rattle.geometry.specs.Leaves.{greatest}
+use Rattle.piles.specs.Leaves.{greatest}
 use Rattle.plate_log.specs.Example.{Worked}
 
 pub worked : Worked

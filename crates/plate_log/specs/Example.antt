@@ -3,13 +3,13 @@ use Rattle.std.specs.Prelude.{◌≡◌, false, List, [], ◌∷◌, ℤ, pos, n
 use Rattle.std.proofs.Common.{lit≤}
 use Rattle.lattice.specs.declared.Point.{Point}
 use Rattle.solid.specs.Body.{Body}
-use Rattle.geometry.specs.Leaves.{block, surface}
-use Rattle.geometry.specs.Layers.{unite, meet, shift, capped}
+use Rattle.piles.specs.Leaves.{block, surface}
+use Rattle.piles.specs.Layers.{unite, meet, shift, cap}
 use Rattle.march.specs.declared.pixel.Pixel.{Pixel}
 use Rattle.march.specs.declared.pixel.Pixel.TheVariants.{Marching, Hit}
 use Rattle.march.specs.declared.view.View.{View}
 use Rattle.plate_log.specs.declared.fault.PlateFault.TheVariants.{NoPixel, Shallow, StillMarching, NoRoom}
-use Rattle.plate_log.specs.Log.{Call, Answer, Line, sweeping, touching, reading, writing, counted, told, wrote, refused, log}
+use Rattle.plate_log.specs.Log.{Call, Answer, Line, sweeping, touching, reading, writing, counted, read_as, wrote, refused, log}
 
 abbrev at : ℤ → ℤ → ℤ → Point
 at x y z = record { x = x; y = y; z = z }
@@ -18,31 +18,31 @@ at x y z = record { x = x; y = y; z = z }
 abbrev pub eye : View
 eye = record {
   origin = at (pos 0) (pos 0) (pos 20);
-  ray = record { x = pos 0; y = pos 0; z = negsuc 0; flat = lit≤ tt; level = lit≤ tt; plumb = lit≤ tt; moves = lit≤ tt };
-  across = record { x = pos 1; y = pos 0; z = pos 0; flat = lit≤ tt; level = lit≤ tt; plumb = lit≤ tt; moves = lit≤ tt };
-  down = record { x = pos 0; y = pos 1; z = pos 0; flat = lit≤ tt; level = lit≤ tt; plumb = lit≤ tt; moves = lit≤ tt };
+  ray = record { x = pos 0; y = pos 0; z = negsuc 0; x_in_range = lit≤ tt; y_in_range = lit≤ tt; z_in_range = lit≤ tt; moves = lit≤ tt };
+  across = record { x = pos 1; y = pos 0; z = pos 0; x_in_range = lit≤ tt; y_in_range = lit≤ tt; z_in_range = lit≤ tt; moves = lit≤ tt };
+  down = record { x = pos 0; y = pos 1; z = pos 0; x_in_range = lit≤ tt; y_in_range = lit≤ tt; z_in_range = lit≤ tt; moves = lit≤ tt };
   width = 2;
   height = 1;
   far = 50;
-  left = lit≤ tt;
-  low = lit≤ tt;
-  near = lit≤ tt;
-  wide = lit≤ tt;
-  high = lit≤ tt;
-  close = lit≤ tt;
+  x_in_range = lit≤ tt;
+  y_in_range = lit≤ tt;
+  z_in_range = lit≤ tt;
+  width_in_range = lit≤ tt;
+  height_in_range = lit≤ tt;
+  far_in_range = lit≤ tt;
 }
 
 -- a sheet of two columns, of heights 3 and 0, and a post from height 5 to 8, within a clip box
-abbrev pub heap : Body
-heap = capped 64 (meet (block (at (negsuc 99) (negsuc 99) (negsuc 99)) (at (pos 100) (pos 100) (pos 100)))
+abbrev pub small_pile : Body
+small_pile = cap 64 (meet (block (at (negsuc 99) (negsuc 99) (negsuc 99)) (at (pos 100) (pos 100) (pos 100)))
     (unite (shift (at (pos 0) (pos 0) (pos 0)) (surface 2 1 (pos 3 ∷ pos 0 ∷ []))) (block (at (pos 0) (pos 0) (pos 5)) (at (pos 0) (pos 0) (pos 8)))))
 
 -- the same, but answering nothing beyond 32,766
-abbrev pub near_heap : Body
-near_heap = record { member = heap.member; reach = 32766; clear = heap.clear; exact = false }
+abbrev pub shallow_pile : Body
+shallow_pile = record { member = small_pile.member; reach = 32766; clear = small_pile.clear; exact = false }
 
 abbrev pub calls : List Call
-calls = sweeping heap 5 ∷ writing 100 ∷ sweeping near_heap 9 ∷ touching 2 0 near_heap 9 ∷ touching 1 0 heap 1 ∷ sweeping heap 100 ∷ writing 15 ∷ reading 1 0 ∷ writing 16 ∷ []
+calls = sweeping small_pile 5 ∷ writing 100 ∷ sweeping shallow_pile 9 ∷ touching 2 0 shallow_pile 9 ∷ touching 1 0 small_pile 1 ∷ sweeping small_pile 100 ∷ writing 15 ∷ reading 1 0 ∷ writing 16 ∷ []
 
 -- what each line answers, and the two pixels after it
 abbrev pub lines_of : List Line → List (Answer × List Pixel)
@@ -58,6 +58,6 @@ Worked = lines_of (log eye calls) ≡
     ∷ (counted 1 1, Hit 12 2 ∷ Marching 15 4 ∷ [])
     ∷ (counted 6 0, Hit 12 2 ∷ Hit 20 10 ∷ [])
     ∷ (refused NoRoom, Hit 12 2 ∷ Hit 20 10 ∷ [])
-    ∷ (told (Hit 20 10), Hit 12 2 ∷ Hit 20 10 ∷ [])
+    ∷ (read_as (Hit 20 10), Hit 12 2 ∷ Hit 20 10 ∷ [])
     ∷ (wrote 16 (1 ∷ 0 ∷ 2 ∷ 160 ∷ 50 ∷ 0 ∷ 0 ∷ 32 ∷ 2 ∷ 0 ∷ 12 ∷ 176 ∷ 10 ∷ 0 ∷ 20 ∷ 176 ∷ []), Hit 12 2 ∷ Hit 20 10 ∷ [])
     ∷ []

@@ -3,15 +3,15 @@ use Rattle.std.specs.Prelude.{◌≡◌, ℕ, ◌+◌, ◌*◌, ◌≤◌, Bool,
 use Rattle.lattice.specs.declared.Point.{Point}
 use Rattle.lattice.specs.Space.{In}
 use Rattle.solid.specs.Body.{Body, Lawful}
-use Rattle.geometry.specs.Pile.{Pile}
-use Rattle.geometry.specs.Stands.{PilesStand, NearDecides}
+use Rattle.piles.specs.Pile.{Pile}
+use Rattle.piles.specs.Stands.{PilesStand, NearDecides}
 use Rattle.march.specs.declared.pixel.Pixel.{Pixel}
 use Rattle.march.specs.declared.view.View.{View}
 use Rattle.march.specs.View.{point}
-use Rattle.march.specs.March.{marches, probes, Takes, Right}
-use Rattle.plate_log.specs.Sweep.{marching, spent}
-use Rattle.plate_log.specs.Log.{Call, Line, sweeping, touching, reading, writing, counted, told, wrote, refused, play, log, opened, stands, pixel, pixels, area, clear_at}
-use Rattle.plate_log.specs.Fair.{Inside, Lines}
+use Rattle.march.specs.March.{marches, probes, Takes, IsRight}
+use Rattle.plate_log.specs.Sweep.{count_marching, count_probes}
+use Rattle.plate_log.specs.Log.{Call, Line, sweeping, touching, reading, writing, counted, read_as, wrote, refused, play, log, new_pixels, pixels_after, pixel_after, pixels_of, area, clear_at}
+use Rattle.plate_log.specs.Lines.{Inside, LinesAreRight}
 
 -- the bodies brought to sweeps and touches that the plate accepted; one brought to a refused call is outside every premise
 pub data Brought (b : Body) : List Line → Type 0 where
@@ -28,17 +28,17 @@ abbrev pub Piled : (Point → Bool) → Body → Type 0
 Piled M b = (N : Point → Bool) × (e : Bool) × Pile N e b × Same N M
 
 -- what pixel (i, j) says of the members along its ray
-abbrev pub Shows : View → (Point → Bool) → (i j : ℕ) → Pixel → Type 0
-Shows v M i j p = Right (λ t. M (point v i j t)) v.far p
+abbrev pub PixelShows : View → (Point → Bool) → (i j : ℕ) → Pixel → Type 0
+PixelShows v M i j p = IsRight (λ t. M (point v i j t)) v.far p
 
 -- the probes that accepted sweeps and touches answered as spent, and the budgets that accepted sweeps were given, added up
-abbrev pub answered : List Line → ℕ
-answered [] = 0
-answered (l ∷ ls) = elim l.answer [ counted s m ↦ s | told p ↦ 0 | wrote n bs ↦ 0 | refused f ↦ 0 ] + answered ls
+abbrev pub probes_answered : List Line → ℕ
+probes_answered [] = 0
+probes_answered (l ∷ ls) = elim l.answer [ counted s m ↦ s | read_as p ↦ 0 | wrote n bs ↦ 0 | refused f ↦ 0 ] + probes_answered ls
 
-abbrev pub budgets : List Line → ℕ
-budgets [] = 0
-budgets (l ∷ ls) = elim l.call [ sweeping b budget ↦ elim l.answer [ counted s m ↦ budget | told p ↦ 0 | wrote n bs ↦ 0 | refused f ↦ 0 ] | touching i j b budget ↦ 0 | reading i j ↦ 0 | writing room ↦ 0 ] + budgets ls
+abbrev pub sweep_budgets : List Line → ℕ
+sweep_budgets [] = 0
+sweep_budgets (l ∷ ls) = elim l.call [ sweeping b budget ↦ elim l.answer [ counted s m ↦ budget | read_as p ↦ 0 | wrote n bs ↦ 0 | refused f ↦ 0 ] | touching i j b budget ↦ 0 | reading i j ↦ 0 | writing room ↦ 0 ] + sweep_budgets ls
 
 -- a rival: a lawful body of the same members that nowhere in the working range clears more than any body brought
 pub record Rival (v : View) (M : Point → Bool) (cs : List Call) (r : Body) : Type 0 where
@@ -49,9 +49,9 @@ pub record Rival (v : View) (M : Point → Bool) (cs : List Call) (r : Body) : T
 
 -- where all piles brought have the members M: each pixel says what is so of its ray, and once it is settled, no rival's whole march
 -- over that ray takes fewer probes
-pub record Shown (v : View) (cs : List Call) (M : Point → Bool) : Type 0 where
-  pub shows : (i j : ℕ) → Inside v i j → Shows v M i j (pixel v cs i j)
-  pub fewest : (i j : ℕ) → Inside v i j → marches (pixel v cs i j) ≡ false → (r : Body) → Rival v M cs r → (n : ℕ) → Takes (clear_at v r i j) v.far 0 n → probes (pixel v cs i j) ≤ n
+pub record PilesShow (v : View) (cs : List Call) (M : Point → Bool) : Type 0 where
+  pub shows : (i j : ℕ) → Inside v i j → PixelShows v M i j (pixel_after v cs i j)
+  pub fewest : (i j : ℕ) → Inside v i j → marches (pixel_after v cs i j) ≡ false → (r : Body) → Rival v M cs r → (n : ℕ) → Takes (clear_at v r i j) v.far 0 n → probes (pixel_after v cs i j) ≤ n
 
 -- the calls of a log
 abbrev pub calls_of : List Line → List Call
@@ -59,38 +59,38 @@ calls_of [] = []
 calls_of (l ∷ ls) = l.call ∷ calls_of ls
 
 -- what holds after the calls cs: all but the last, whatever bodies they brought
-pub record Held (v : View) (cs : List Call) : Type 0 where
+pub record LogHolds (v : View) (cs : List Call) : Type 0 where
   -- the log has a line for each call
   pub each : calls_of (log v cs) ≡ cs
   -- every line answers and leaves what is fair
-  pub lines : Lines v (opened v) (log v cs)
+  pub lines : LinesAreRight v (new_pixels v) (log v cs)
   -- the pixels' probes add up to what was answered as spent
-  pub counts : spent (stands v cs) ≡ answered (log v cs)
+  pub counts : count_probes (pixels_after v cs) ≡ probes_answered (log v cs)
   -- sweeps with budgets enough leave nothing marching
-  pub ends : area v * (v.far + 1) ≤ budgets (log v cs) → marching (stands v cs) ≡ 0
+  pub ends : area v * (v.far + 1) ≤ sweep_budgets (log v cs) → count_marching (pixels_after v cs) ≡ 0
   -- a settled pixel never changes later
-  pub lasting : (more : List Call) (i j : ℕ) → Inside v i j → marches (pixel v cs i j) ≡ false → pixel v (cs ++ more) i j ≡ pixel v cs i j
+  pub lasting : (more : List Call) (i j : ℕ) → Inside v i j → marches (pixel_after v cs i j) ≡ false → pixel_after v (cs ++ more) i j ≡ pixel_after v cs i j
   -- piles of the members M
-  pub shown : (M : Point → Bool) → ((b : Body) → Brought b (log v cs) → Piled M b) → Shown v cs M
+  pub shown : (M : Point → Bool) → ((b : Body) → Brought b (log v cs) → Piled M b) → PilesShow v cs M
 
 -- a call took the records rs to qs: whatever calls led to rs, with this one they led to qs, and all of it holds
 abbrev pub Promise : View → (rs qs : List Pixel) → Call → Type 0
-Promise v rs qs c = (cs : List Call) → pixels v rs ≡ stands v cs → (pixels v qs ≡ stands v (cs ++ (c ∷ []))) × Held v (cs ++ (c ∷ []))
+Promise v rs qs c = (cs : List Call) → pixels_of v rs ≡ pixels_after v cs → (pixels_of v qs ≡ pixels_after v (cs ++ (c ∷ []))) × LogHolds v (cs ++ (c ∷ []))
 
 -- every march settles, so a rival always has a number of probes to be compared with
-abbrev pub Settles : Type 0
-Settles = (v : View) (b : Body) → Lawful b → (i j : ℕ) → Inside v i j → (n : ℕ) × Takes (clear_at v b i j) v.far 0 n
+abbrev pub EveryMarchSettles : Type 0
+EveryMarchSettles = (v : View) (b : Body) → Lawful b → (i j : ℕ) → Inside v i j → (n : ℕ) × Takes (clear_at v b i j) v.far 0 n
 
 -- a log begins with that of the first of its calls, and goes on from the pixels as they stand then: so
 -- what holds of every log holds at each line of one
 abbrev pub LogsGoOn : Type 0
-LogsGoOn = (v : View) (cs more : List Call) → log v (cs ++ more) ≡ log v cs ++ play v (stands v cs) more
+LogsGoOn = (v : View) (cs more : List Call) → log v (cs ++ more) ≡ log v cs ++ play v (pixels_after v cs) more
 
 -- the whole: of every view, every list of calls and every pile
 pub record Whole : Type 0 where
   pub piles : PilesStand
   -- what set algebra says of a thickened pile
   pub near : NearDecides
-  pub logs : (v : View) (cs : List Call) → Held v cs
+  pub logs : (v : View) (cs : List Call) → LogHolds v cs
   pub prefixes : LogsGoOn
-  pub settles : Settles
+  pub settles : EveryMarchSettles

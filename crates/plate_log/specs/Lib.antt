@@ -1,7 +1,7 @@
-pub mod Told
+pub mod Codes
 pub mod Sweep
 pub mod Log
 pub mod Opening
-pub mod Fair
+pub mod Lines
 pub mod Example
 pub mod Law

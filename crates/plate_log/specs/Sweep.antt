@@ -2,32 +2,32 @@
 use Rattle.std.specs.Prelude.{ℕ, ◌+◌, Bool, true, cond, ◌&&◌, List, [], ◌∷◌}
 use Rattle.march.specs.declared.pixel.Pixel.{Pixel}
 use Rattle.march.specs.declared.pixel.Pixel.TheVariants.{Miss}
-use Rattle.march.specs.March.{marches, probes, sane, settled}
+use Rattle.march.specs.March.{marches, probes, is_sane, settle}
 
 -- what stands past the end of a list of pixels
-abbrev pub past : Pixel
-past = Miss 0
+abbrev pub past_the_end : Pixel
+past_the_end = Miss 0
 
 -- the pixels from place k on, each settled as far as the budget goes, with the clearance along its own ray, which is `clear k` at
 -- place k; and what is left of the budget
-abbrev pub swept : (clear : ℕ → ℕ → ℕ) (far budget k : ℕ) → List Pixel → List Pixel × ℕ
-swept clear far budget k [] = ([], budget)
-swept clear far budget k (p ∷ ps) =
-    let s = settled (clear k) far budget p in
-    let rest = swept clear far s.1 (k + 1) ps in
+abbrev pub sweep : (clear : ℕ → ℕ → ℕ) (far budget k : ℕ) → List Pixel → List Pixel × ℕ
+sweep clear far budget k [] = ([], budget)
+sweep clear far budget k (p ∷ ps) =
+    let s = settle (clear k) far budget p in
+    let rest = sweep clear far s.1 (k + 1) ps in
     (s.0 ∷ rest.0, rest.1)
 
 -- how many of the pixels march
-abbrev pub marching : List Pixel → ℕ
-marching [] = 0
-marching (p ∷ ps) = cond (marches p) 1 0 + marching ps
+abbrev pub count_marching : List Pixel → ℕ
+count_marching [] = 0
+count_marching (p ∷ ps) = cond (marches p) 1 0 + count_marching ps
 
 -- all their probes
-abbrev pub spent : List Pixel → ℕ
-spent [] = 0
-spent (p ∷ ps) = probes p + spent ps
+abbrev pub count_probes : List Pixel → ℕ
+count_probes [] = 0
+count_probes (p ∷ ps) = probes p + count_probes ps
 
 -- are the numbers of each as a march leaves them?
-abbrev pub all_sane : ℕ → List Pixel → Bool
-all_sane far [] = true
-all_sane far (p ∷ ps) = sane far p && all_sane far ps
+abbrev pub are_sane : ℕ → List Pixel → Bool
+are_sane far [] = true
+are_sane far (p ∷ ps) = is_sane far p && are_sane far ps

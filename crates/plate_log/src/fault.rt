@@ -1,13 +1,11 @@
 //! Why a plate refuses a call.
 ghost use Rattle.std.specs.Prelude.{◌≡◌, Some};
 ghost use Rattle.refusal.specs.Texts.{refusal_text};
-ghost use Rattle.plate_log.specs.Told.{plate_told};
+ghost use Rattle.plate_log.specs.Codes.{plate_code};
 ghost use Rattle.plate_log.specs.declared.fault.PlateFault.TheVariants.{View, NoPixel, Shallow};
 
-use march::rays::StepFault;
-use march::view::{PixelFault, ViewFault};
-use refusal::told::Told;
-use refusal::{Refusal, Rule};
+use march::{PixelFault, StepFault, ViewFault};
+use refusal::{Refusal, RefusalCode, Rule};
 use std::fmt;
 
 /// Why a plate refuses a call.
@@ -28,7 +26,7 @@ pub enum PlateFault {
 }
 
 impl Refusal for PlateFault {
-    ghost told = { plate_told };
+    ghost code = { plate_code };
 
     fn number(&self) -> u32 {
         match self {
@@ -50,10 +48,10 @@ impl Refusal for PlateFault {
 }
 
 impl fmt::Display for PlateFault {
-    ghost output = { λ fault. Some (refusal_text (plate_told fault)) };
+    ghost output = { λ fault. Some (refusal_text (plate_code fault)) };
 
     fn fmt<W: fmt::Write>(&self, f: &mut fmt::Formatter<W>) -> fmt::Result {
-        Told::of(self).fmt(f)
+        RefusalCode::of(self).fmt(f)
     }
 }
 

@@ -2,4 +2,6 @@
 //! the proofs in `proofs/`; the plate's own contracts cite both.
 #![tactic(auto)]
 
-pub mod fault;
+mod fault;
+
+pub use fault::PlateFault;

@@ -1,8 +1,7 @@
 //! Scenes built by calls: too many nodes, and shifts that use up the reach.
 use crate::files::{Answer, answer};
 use lattice::Point;
-use scene::Scene;
-use scene::draft::{Draft, DraftFault};
+use scene::{Draft, DraftFault, Scene};
 use solid::Solid;
 use std::test::*;
 

@@ -1,9 +1,9 @@
 //! Jobs: truncated, of another kind, with a bit too many, out of range, and with two faults at once.
 use crate::files::{Answer, answer, cut, file_of, number, with};
-use readers::job::reads::read_job;
+use readers::read_job;
 use std::process::Abort;
 use std::test::*;
-use words::reader::Reader;
+use words::Reader;
 
 /// A job of two pixels, straight down from (0, 0, 20).
 const JOB: [u32; 20] = [

@@ -1,10 +1,10 @@
 //! Scenes: whole, damaged, too long, and too far from their reach.
 use crate::files::{Answer, answer, cut, file_of, number, with};
+use readers::read_scene;
 use scene::Scene;
-use scene_reader::reads::read_scene;
 use solid::Solid;
 use std::test::*;
-use words::reader::Reader;
+use words::Reader;
 
 // Words as a file has them, so that their kinds come from outside the code.
 const BALL: u32 = 0x3000_0000;

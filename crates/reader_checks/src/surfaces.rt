@@ -1,9 +1,9 @@
 //! Surfaces: truncated, of wrong sizes, and over buffers that are too short.
 use crate::files::{Answer, answer, cut, file_of, with};
-use readers::surface::reads::read_surface;
+use readers::read_surface;
 use std::process::Abort;
 use std::test::*;
-use words::reader::Reader;
+use words::Reader;
 
 /// Two columns by two.
 const SURFACE: [u32; 5] = [

@@ -3,3 +3,9 @@ pub mod Stands
 pub mod ReadBack
 pub mod Sheets
 pub mod SheetBack
+pub mod Named
+pub mod Laying
+pub mod Turns
+pub mod Ending
+pub mod Made
+pub mod TreesBack

@@ -7,10 +7,12 @@ use Rattle.lattice.specs.Space.{In, IsPlacement}
 use Rattle.lattice.specs.Rows.{triple}
 use Rattle.lattice.specs.declared.Point.{Point}
 use Rattle.march.specs.declared.view.ViewNumbers.{ViewNumbers}
-use Rattle.march.specs.declared.view.ViewFault.{ViewFault}
-use Rattle.march.specs.declared.view.ViewFault.TheVariants.{Range, Row}
-use Rattle.march.specs.Checks.{and_then, view_answer, origin_answer, ways_answer, sizes_answer, range_answer, count_answer, row_answer}
-use Rattle.words.specs.Reading.{in_range, point_in, is_row}
+use Rattle.march.specs.declared.fault.ViewFault.{ViewFault}
+use Rattle.march.specs.declared.fault.ViewFault.TheVariants.{Range, Row}
+use Rattle.refusal.specs.Checks.{and_then}
+use Rattle.march.specs.Checks.{view_answer, origin_answer, ways_answer, sizes_answer, range_answer, count_answer, row_answer}
+use Rattle.refusal.specs.Ranges.{between}
+use Rattle.words.specs.Reading.{point_in, is_row}
 use Rattle.words.specs.Encoding.{bytes_of}
 use Rattle.words.proofs.Back.{bare_back, number_in_back, row_back, point_back}
 use Rattle.readers.specs.declared.job.Job.{Job}
@@ -29,11 +31,11 @@ picked : {A : Type 0} (b : Bool) (x : A) (e : ViewFault) → is_ok (cond b (Ok x
 picked true x e h = refl
 picked false x e h = h
 
-ranged : (lo hi n : ℤ) (k : ℕ) → is_ok (range_answer lo hi n k) ≡ true → in_range lo hi n ≡ true
+ranged : (lo hi n : ℤ) (k : ℕ) → is_ok (range_answer lo hi n k) ≡ true → between lo hi n ≡ true
 unfolding range_answer
-ranged lo hi n k h = picked (in_range lo hi n) n (Range k) h
+ranged lo hi n k h = picked (between lo hi n) n (Range k) h
 
-counted : (lo hi n : ℤ) (k : ℕ) → is_ok (count_answer lo hi n k) ≡ true → in_range lo hi n ≡ true
+counted : (lo hi n : ℤ) (k : ℕ) → is_ok (count_answer lo hi n k) ≡ true → between lo hi n ≡ true
 unfolding count_answer
 counted lo hi n k h = ranged lo hi n k (ap is_ok (linked (range_answer lo hi n k) _ h).1.0)
 
@@ -54,9 +56,9 @@ pub record Sound (v : ViewNumbers) : Type 0 where
   pub ray : is_row v.ray ≡ true
   pub across : is_row v.across ≡ true
   pub down : is_row v.down ≡ true
-  pub width : in_range (pos 1) (pos 64) v.width ≡ true
-  pub height : in_range (pos 1) (pos 64) v.height ≡ true
-  pub far : in_range (pos 0) (pos 4095) v.far ≡ true
+  pub width : between (pos 1) (pos 64) v.width ≡ true
+  pub height : between (pos 1) (pos 64) v.height ≡ true
+  pub far : between (pos 0) (pos 4095) v.far ≡ true
 
 sound : (v : ViewNumbers) → is_ok (view_answer v) ≡ true → Sound v
 unfolding origin_answer ways_answer sizes_answer
@@ -90,7 +92,7 @@ offset_in : (p : Point) → In 16383 p → point_in (negsuc 16382) (pos 16383) p
 offset_in p h =
     let x = part p.x h.0 in let y = part p.y h.1 in let z = part p.z h.2 in simp (x, y, z)
   where
-    part : (n : ℤ) → nat_abs n ≤ 16383 → in_range (negsuc 16382) (pos 16383) n ≡ true
+    part : (n : ℤ) → nat_abs n ≤ 16383 → between (negsuc 16382) (pos 16383) n ≡ true
     part n l = grind (arith, ints)
 
 module _ (j : Job) (rest : List ℕ) where
@@ -100,7 +102,7 @@ module _ (j : Job) (rest : List ℕ) where
   view_back : view_at bytes ≡ Ok j.view
   unfolding view_at rows_at sizes_at bytes
   view_back =
-      let s = sound j.view j.seen in
+      let s = sound j.view j.view_in_range in
       let o = point_back (job_words j) rest 1 (negsuc 16383) (pos 16383) j.view.origin (lit< tt) refl refl refl (refl, refl) s.origin in
       let a = row_back (job_words j) rest 4 j.view.ray (lit< tt) refl s.ray in
       let b = row_back (job_words j) rest 5 j.view.across (lit< tt) refl s.across in
@@ -113,10 +115,10 @@ module _ (j : Job) (rest : List ℕ) where
   pile_back : pile_at bytes ≡ Ok (pos j.guard, j.shift, j.clip.lo, j.clip.hi)
   unfolding pile_at bytes
   pile_back =
-      let l = j.slight in
-      let g : in_range (pos 0) (pos 1023) (pos j.guard) ≡ true = grind (arith, ints, nat_tests) in
+      let l = j.guard_in_range in
+      let g : between (pos 0) (pos 1023) (pos j.guard) ≡ true = grind (arith, ints, nat_tests) in
       let a = number_in_back (job_words j) rest 10 (pos 0) (pos 1023) (pos j.guard) (lit< tt) refl (refl, refl) g in
-      let b = point_back (job_words j) rest 11 (negsuc 16382) (pos 16383) j.shift (lit< tt) refl refl refl (refl, refl) (offset_in j.shift j.near) in
+      let b = point_back (job_words j) rest 11 (negsuc 16382) (pos 16383) j.shift (lit< tt) refl refl refl (refl, refl) (offset_in j.shift j.shift_in_range) in
       let c = point_back (job_words j) rest 14 (negsuc 16383) (pos 16383) j.clip.lo (lit< tt) refl refl refl (refl, refl) (placement_in_range j.clip.lo j.clip.lo_is_placement) in
       let d = point_back (job_words j) rest 17 (negsuc 16383) (pos 16383) j.clip.hi (lit< tt) refl refl refl (refl, refl) (placement_in_range j.clip.hi j.clip.hi_is_placement) in
       simp (a, b, c, d)

@@ -5,9 +5,9 @@ use Rattle.std.proofs.lemmas.Bool.Decides.{nat_tests}
 use Rattle.words.specs.Encoding.{bytes_of, signed_word}
 use Rattle.words.proofs.Back.{kind_back, numbers_back}
 use Rattle.readers.specs.Surfaces.{side, size_of, heights_at, surface_of}
-use Rattle.readers.specs.SurfacesBack.{surface_words, sixteen, SurfacesReadBack}
+use Rattle.readers.specs.SurfacesBack.{surface_words, fit_16_bits, SurfacesReadBack}
 
-heights_back : (ws rest : List ℕ) (k : ℕ) (hs : List ℤ) → k + length hs ≤ length ws → ((i : ℕ) → i < length hs → get_or ws (k + i) 0 ≡ signed_word (get_or hs i (pos 0))) → sixteen hs ≡ true → heights_at (bytes_of ws ++ rest) k (length hs) ≡ Ok hs
+heights_back : (ws rest : List ℕ) (k : ℕ) (hs : List ℤ) → k + length hs ≤ length ws → ((i : ℕ) → i < length hs → get_or ws (k + i) 0 ≡ signed_word (get_or hs i (pos 0))) → fit_16_bits hs ≡ true → heights_at (bytes_of ws ++ rest) k (length hs) ≡ Ok hs
 unfolding heights_at
 heights_back ws rest k [] h at s = refl
 heights_back ws rest k (z ∷ hs) h at s =

@@ -5,7 +5,8 @@ use Rattle.std.proofs.lemmas.Nat.{mul-le}
 use Rattle.std.proofs.lemmas.List.{take_more_set, append-nil}
 use Rattle.std.proofs.lemmas.Bool.Decides.{nat_tests}
 use Rattle.words.specs.declared.fault.WordFault.{WordFault}
-use Rattle.words.specs.Reading.{and_then, number_at}
+use Rattle.refusal.specs.Checks.{and_then}
+use Rattle.words.specs.Reading.{number_at}
 use Rattle.readers.specs.Surfaces.{side, heights_at}
 
 join : (h : ℤ) (xs ys : List ℤ) (r : Result (List ℤ) WordFault) → ys ≡ xs ++ h ∷ [] → result_map_both (λ hs. xs ++ hs) (λ e. e) (and_then r (λ hs. Ok (h ∷ hs))) ≡ result_map_both (λ hs. ys ++ hs) (λ e. e) r

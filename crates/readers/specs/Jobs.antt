@@ -4,11 +4,12 @@ use Rattle.std.specs.Result.{result_map_both}
 use Rattle.lattice.specs.declared.Point.{Point}
 use Rattle.march.specs.declared.view.ViewNumbers.{ViewNumbers}
 use Rattle.words.specs.declared.fault.WordFault.{WordFault}
-use Rattle.words.specs.Reading.{and_then, unless, bare_at, number_in, row_at, place_at, offset_at}
-use Rattle.geometry.specs.Leaves.{ordered}
+use Rattle.refusal.specs.Checks.{and_then, unless}
+use Rattle.words.specs.Reading.{bare_at, number_in, row_at, placement_at, offset_at}
+use Rattle.lattice.specs.Space.{ordered}
 use Rattle.readers.specs.declared.job.Job.{Job}
-use Rattle.readers.specs.declared.job.JobFault.{JobFault}
-use Rattle.readers.specs.declared.job.JobFault.TheVariants.{Word, Corners}
+use Rattle.readers.specs.declared.fault.JobFault.{JobFault}
+use Rattle.readers.specs.declared.fault.JobFault.TheVariants.{Word, Corners}
 
 -- a job by its plain numbers
 pub record JobNumbers : Type 0 where
@@ -35,7 +36,7 @@ sizes_at bs k = and_then (number_in bs k (pos 1) (pos 64)) (λ w. and_then (numb
 -- the view: origin 1 to 3, rows 4 to 6, sizes 7 to 9
 unfoldable pub view_at : List ℕ → Result ViewNumbers WordFault
 view_at bs =
-    and_then (place_at bs 1) (λ o.
+    and_then (placement_at bs 1) (λ o.
     and_then (rows_at bs 4) (λ r.
     and_then (sizes_at bs 7) (λ s.
     Ok (record { origin = o; ray = r.0; across = r.1; down = r.2; width = s.0; height = s.1; far = s.2 }))))
@@ -48,8 +49,8 @@ unfoldable pub pile_at : List ℕ → Result (ℤ × Point × Point × Point) Wo
 pile_at bs =
     and_then (number_in bs 10 (pos 0) (pos 1023)) (λ guard.
     and_then (offset_at bs 11) (λ shift.
-    and_then (place_at bs 14) (λ lo.
-    and_then (place_at bs 17) (λ hi.
+    and_then (placement_at bs 14) (λ lo.
+    and_then (placement_at bs 17) (λ hi.
     Ok (guard, shift, lo, hi)))))
 
 -- the whole job: its start word is of kind 13, at place 0; lo is to be above hi on no axis, which is looked at last

@@ -7,18 +7,18 @@ use Rattle.words.specs.Encoding.{bytes_of, signed_word}
 use Rattle.readers.specs.declared.job.Job.{Job}
 use Rattle.readers.specs.Jobs.{job_numbers, job_of}
 
-abbrev pub parts : Point → List ℤ → List ℤ
-parts p ns = p.x ∷ p.y ∷ p.z ∷ ns
+abbrev pub coordinates : Point → List ℤ → List ℤ
+coordinates p ns = p.x ∷ p.y ∷ p.z ∷ ns
 
 -- the nineteen numbers, in their order
-abbrev pub listed : Job → List ℤ
-listed j = view_listed j.view (pos j.guard ∷ parts j.shift (parts j.clip.lo (parts j.clip.hi [])))
+abbrev pub numbers_of : Job → List ℤ
+numbers_of j = view_listed j.view (pos j.guard ∷ coordinates j.shift (coordinates j.clip.lo (coordinates j.clip.hi [])))
   where
     view_listed : ViewNumbers → List ℤ → List ℤ
-    view_listed v ns = parts v.origin (v.ray ∷ v.across ∷ v.down ∷ v.width ∷ v.height ∷ v.far ∷ ns)
+    view_listed v ns = coordinates v.origin (v.ray ∷ v.across ∷ v.down ∷ v.width ∷ v.height ∷ v.far ∷ ns)
 
 abbrev pub job_words : Job → List ℕ
-job_words j = of_kind 13 0 ∷ map signed_word (listed j)
+job_words j = of_kind 13 0 ∷ map signed_word (numbers_of j)
 
 -- every job is read back from its words, whatever follows them
 abbrev pub JobsReadBack : Type 0

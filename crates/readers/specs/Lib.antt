@@ -1,6 +1,9 @@
-pub mod JobTold
+pub mod Codes
 pub mod Jobs
 pub mod JobsBack
-pub mod SurfaceTold
+pub mod Kinds
+pub mod Scenes
+pub mod LaysDown
+pub mod ScenesBack
 pub mod Surfaces
 pub mod SurfacesBack

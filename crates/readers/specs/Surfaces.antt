@@ -2,10 +2,11 @@
 use Rattle.std.specs.Prelude.{ℕ, zero, suc, ◌+◌, ◌*◌, ◌/◌, ◌%◌, Bool, ◌&&◌, List, [], ◌∷◌, ◌++◌, drop, ℤ, Ok, Err, Result, nat_le}
 use Rattle.std.specs.Result.{result_map_both}
 use Rattle.words.specs.declared.fault.WordFault.{WordFault}
-use Rattle.words.specs.Reading.{and_then, unless, kind_at, number_at}
+use Rattle.refusal.specs.Checks.{and_then, unless}
+use Rattle.words.specs.Reading.{kind_at, number_at}
 use Rattle.leaves.specs.declared.surface.SurfaceSize.{SurfaceSize}
-use Rattle.readers.specs.declared.surface.SurfaceReadFault.{SurfaceReadFault}
-use Rattle.readers.specs.declared.surface.SurfaceReadFault.TheVariants.{Word, Size, Buffer}
+use Rattle.readers.specs.declared.fault.SurfaceReadFault.{SurfaceReadFault}
+use Rattle.readers.specs.declared.fault.SurfaceReadFault.TheVariants.{Word, Size, Buffer}
 
 abbrev pub in_surface : {A : Type 0} → Result A WordFault → Result A SurfaceReadFault
 in_surface = result_map_both (λ x. x) Word
@@ -15,15 +16,15 @@ abbrev pub side : ℕ → Bool
 side n = nat_le 1 n && nat_le n 64
 
 -- the sizes, where the caller has room for so many heights
-abbrev pub sized : (width depth room : ℕ) → Result SurfaceSize SurfaceReadFault
-sized width depth room =
+abbrev pub size_answer : (width depth room : ℕ) → Result SurfaceSize SurfaceReadFault
+size_answer width depth room =
     unless (side width && side depth) Size
     (unless (nat_le (width * depth) room) Buffer
     (Ok (record { width = width; depth = depth })))
 
 -- the start word, of kind 9: bits 27..16 width, 15..0 depth
 unfoldable pub size_of : List ℕ → (room : ℕ) → Result SurfaceSize SurfaceReadFault
-size_of bs room = and_then (in_surface (kind_at bs 0 9 9)) (λ w. sized (w.1 / 65536) (w.1 % 65536) room)
+size_of bs room = and_then (in_surface (kind_at bs 0 9 9)) (λ w. size_answer (w.1 / 65536) (w.1 % 65536) room)
 
 -- n heights from place k on
 unfoldable pub heights_at : List ℕ → (place : ℕ) → (n : ℕ) → Result (List ℤ) WordFault

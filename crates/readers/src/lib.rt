@@ -1,5 +1,16 @@
-//! The readers of a job and of a surface.
+//! The readers of a job, of a scene and of a surface.
 #![tactic(auto)]
 
-pub mod job;
-pub mod surface;
+mod fault;
+mod job;
+mod jobs;
+mod kind;
+mod scenes;
+mod surfaces;
+
+pub use fault::{JobFault, SceneFault, SurfaceReadFault};
+pub use job::Job;
+pub use jobs::read_job;
+pub use kind::NodeKind;
+pub use scenes::read_scene;
+pub use surfaces::{MOST_HEIGHTS, read_surface};

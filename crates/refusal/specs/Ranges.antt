@@ -1,15 +1,19 @@
 -- A number that has to lie in a range, and the refusal of one that does not.
-use Rattle.std.specs.Prelude.{ℕ, cond, ◌&&◌, ℤ, int_le, Result, Ok, Err, unsigned_abs}
+use Rattle.std.specs.Prelude.{ℕ, Bool, if◌then◌else◌, ◌&&◌, ℤ, int_le, Result, Ok, Err, unsigned_abs}
 use Rattle.std.specs.Result.{result_map_both}
 use Rattle.refusal.specs.declared.range.OutOfRange.{OutOfRange}
 
 -- the number and the place of the refusal
-abbrev pub range_told : OutOfRange → ℕ × ℕ
-range_told fault = (4, fault.place)
+abbrev pub range_code : OutOfRange → ℕ × ℕ
+range_code fault = (4, fault.place)
+
+-- does n lie in least..most?
+abbrev pub between : (least most n : ℤ) → Bool
+between least most n = int_le least n && int_le n most
 
 -- the number at a place, where it lies in least..most
 abbrev pub in_range : (n least most : ℤ) (place : ℕ) → Result ℤ OutOfRange
-in_range n least most place = cond (int_le least n && int_le n most) (Ok n) (Err (record { place = place }))
+in_range n least most place = if between least most n then Ok n else Err (record { place = place })
 
 -- its size, where it does
 abbrev pub count_in : (n least most : ℤ) (place : ℕ) → Result ℕ OutOfRange

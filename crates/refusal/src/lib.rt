@@ -6,8 +6,11 @@ ghost use Rattle.refusal.specs.Numbers.{rule_number};
 ghost use Rattle.refusal.specs.Sentences.{rule_sentence};
 ghost use Rattle.refusal.specs.Texts.{rule_of, EachIsFound};
 
-pub mod range;
-pub mod told;
+mod code;
+mod range;
+
+pub use code::RefusalCode;
+pub use range::{OutOfRange, count_in, in_range};
 
 /// The rules that an input or a call may break, by their numbers.
 #[derive(Clone, Copy, PartialEq, Eq, Debug)]
@@ -132,13 +135,13 @@ impl Rule {
 /// of the rule that was broken and the place of the input that broke it; `told` is that pair.
 /// A place counts words or numbers of the input; where there is nothing to count it is 0.
 pub trait Refusal {
-    ghost told: { Self → ℕ × ℕ };
+    ghost code: { Self → ℕ × ℕ };
 
     /// The number of the rule that was broken.
     fn number(&self) -> u32
-        ensures { result ≡ (told self.now).0 };
+        ensures { result ≡ (code self.now).0 };
 
     /// The place of the input that broke it.
     fn place(&self) -> u32
-        ensures { result ≡ (told self.now).1 };
+        ensures { result ≡ (code self.now).1 };
 }

@@ -1,10 +1,9 @@
 //! Numbers that have to lie in a range.
 ghost use Rattle.std.specs.Prelude.{◌≡◌, Some};
-ghost use Rattle.refusal.specs.Ranges.{in_range, count_in, range_told};
+ghost use Rattle.refusal.specs.Ranges.{in_range, count_in, range_code};
 ghost use Rattle.refusal.specs.Texts.{refusal_text};
 
-use super::told::Told;
-use super::{Refusal, Rule};
+use super::{Refusal, RefusalCode, Rule};
 use std::fmt;
 
 /// Why a number is refused: 4, at its place.
@@ -14,7 +13,7 @@ pub struct OutOfRange {
 }
 
 impl Refusal for OutOfRange {
-    ghost told = { range_told };
+    ghost code = { range_code };
 
     fn number(&self) -> u32 {
         Rule::Range.number()
@@ -26,10 +25,10 @@ impl Refusal for OutOfRange {
 }
 
 impl fmt::Display for OutOfRange {
-    ghost output = { λ fault. Some (refusal_text (range_told fault)) };
+    ghost output = { λ fault. Some (refusal_text (range_code fault)) };
 
     fn fmt<W: fmt::Write>(&self, f: &mut fmt::Formatter<W>) -> fmt::Result {
-        Told::of(self).fmt(f)
+        RefusalCode::of(self).fmt(f)
     }
 }
 

@@ -6,7 +6,7 @@ use Rattle.scene.specs.declared.node.Node.{Node}
 use Rattle.scene.specs.declared.parts.Part.{Part}
 use Rattle.lattice.specs.Space.{In}
 use Rattle.scene.specs.declared.bound.Bound.{Bound}
-use Rattle.scene.specs.Bounds.{off}
+use Rattle.scene.specs.Bounds.{off_bound}
 use Rattle.scene.specs.Parts.{last_body, IsPart, AreParts, AreBounds}
 
 -- asked up to m, the parts from first up to k of a row have left c: no more than m, than any of them, and no less than the whole has
@@ -36,9 +36,9 @@ module _ (ns : List Node) (n : ℕ) (row : List Part) (p : Point) (m : ℕ) wher
   }
 
   -- a group that lies too far is passed over
-  pub group_passed : (bounds : List Bound) (c g h : ℕ) (b : Bound) → IsAnswer ns n row p m c 0 (min (g * 8) h) → AreBounds ns row h bounds → In 1048576 p → c ≤ off (get_or bounds g b) p → IsAnswer ns n row p m c 0 (min ((g + 1) * 8) h)
+  pub group_passed : (bounds : List Bound) (c g h : ℕ) (b : Bound) → IsAnswer ns n row p m c 0 (min (g * 8) h) → AreBounds ns row h bounds → In 1048576 p → c ≤ off_bound (get_or bounds g b) p → IsAnswer ns n row p m c 0 (min ((g + 1) * 8) h)
   group_passed bounds c g h b a are near far = group_asked c g h c a (omega arith) (omega arith)
-      (λ i d first last l. let q : i / 8 ≡ g = omega arith in omega (arith, are i d b l p near, ap (λ j. off (get_or bounds j b) p) q))
+      (λ i d first last l. let q : i / 8 ≡ g = omega arith in omega (arith, are i d b l p near, ap (λ j. off_bound (get_or bounds j b) p) q))
 
   -- once all are asked
   pub all_asked : (c h k : ℕ) → h ≤ k → AreParts ns n row h → IsAnswer ns n row p m c 0 (min k h) → c ≡ min m ((last_body ns n).clear p)

@@ -6,7 +6,7 @@ use Rattle.std.proofs.lemmas.List.{get_or-take, length-take, length-take-le}
 use Rattle.std.proofs.lemmas.List.Elements.{All-get_or, All-from_get_or}
 use Rattle.std.proofs.lemmas.List.Sorted.{All-permutation, IsPermutation-sym, length_permutation}
 use Rattle.solid.specs.Body.{Body}
-use Rattle.geometry.proofs.Bounds.{held_no_nearer}
+use Rattle.piles.proofs.Bounds.{held_no_nearer}
 use Rattle.scene.specs.declared.node.Node.{Node}
 use Rattle.scene.specs.declared.bound.Bound.{Bound}
 use Rattle.scene.specs.declared.parts.Part.{Part}

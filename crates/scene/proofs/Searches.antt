@@ -6,10 +6,10 @@ use Rattle.std.proofs.Math.ListN.{length-set}
 use Rattle.std.proofs.lemmas.List.{get_or_past, length-replicate}
 use Rattle.lattice.specs.declared.Point.{Point}
 use Rattle.solid.specs.Body.{Body}
-use Rattle.geometry.specs.Layers.{unite}
+use Rattle.piles.specs.Layers.{unite}
 use Rattle.scene.specs.declared.node.Node.{Node}
 use Rattle.scene.specs.declared.parts.Part.{Part}
-use Rattle.scene.specs.Standing.{standing, some, top}
+use Rattle.scene.specs.Standing.{standing, has_one, top}
 use Rattle.scene.specs.Parts.{last_body, IsPart, AreParts, Unites, IsSearch}
 use Rattle.scene.proofs.Stacks.{some_laid, two_some, two_top}
 
@@ -35,11 +35,11 @@ unmarked (suc k) zero = refl
 unmarked (suc k) (suc e) = unmarked k e
 
 module _ (ns : List Node) (n : ℕ) where
-  pub whole_is_part : some (standing ns n) ≡ true → IsPart ns n n
+  pub whole_is_part : has_one (standing ns n) ≡ true → IsPart ns n n
   whole_is_part h = record { laid = omega arith; stands = h; reaches = omega arith; no_nearer = λ p. omega arith }
 
   -- a search begins at the whole
-  pub search_begun : (row : List Part) → n ≤ 256 → some (standing ns n) ≡ true → IsSearch ns n (set (replicate 257 false) n true) row 0 n
+  pub search_begun : (row : List Part) → n ≤ 256 → has_one (standing ns n) ≡ true → IsSearch ns n (set (replicate 257 false) n true) row 0 n
   search_begun row l h = record {
     room = omega arith;
     opened = λ e le o. elim (marked_before (replicate 257 false) n e o) [
@@ -72,7 +72,7 @@ module _ (ns : List Node) (n : ℕ) where
     pub left_is_part : IsPart ns n end → IsPart ns n left
     left_is_part t = record {
       laid = omega (arith, t.laid, u.below);
-      stands = ap some u.beside ∙ u.fit;
+      stands = ap has_one u.beside ∙ u.fit;
       reaches = omega (arith, t.reaches, reach);
       no_nearer = λ p. omega (arith, t.no_nearer p, union_clear p);
     }

@@ -2,17 +2,17 @@
 use Rattle.std.specs.Prelude.{ℕ, zero, suc, List, [], ◌∷◌, slice_index_or}
 use Rattle.lattice.proofs.Distance.{placement_in}
 use Rattle.solid.specs.Body.{Body, Lawful}
-use Rattle.geometry.specs.Layers.{shift, thicken}
-use Rattle.geometry.proofs.Balls.{ball_lawful}
-use Rattle.geometry.proofs.Boxes.{block_lawful}
-use Rattle.geometry.proofs.Kept.{unite_lawful, meet_lawful, shift_lawful, thicken_lawful}
+use Rattle.piles.specs.Layers.{shift, thicken}
+use Rattle.piles.proofs.Balls.{ball_lawful}
+use Rattle.piles.proofs.Boxes.{block_lawful}
+use Rattle.piles.proofs.Kept.{unite_lawful, meet_lawful, shift_lawful, thicken_lawful}
 use Rattle.scene.specs.declared.node.Node.{Node}
 use Rattle.scene.specs.declared.node.Join.{Join}
 use Rattle.scene.specs.declared.node.Join.TheVariants.{Unite, Meet}
 use Rattle.scene.specs.declared.node.Leaf.{Leaf}
 use Rattle.scene.specs.declared.node.Leaf.TheVariants.{Ball, Block}
 use Rattle.scene.specs.declared.node.Node.TheVariants.{Joined, Leaf as leaf, Shift, Thicken}
-use Rattle.scene.specs.Standing.{leaf_body, joined, on_two, on_one, step, gathered, standing, origin, top}
+use Rattle.scene.specs.Standing.{leaf_body, join_of, on_two, on_one, with_node, gather, standing, origin, top}
 use Rattle.std.proofs.Common.{lit≤}
 
 abbrev pub AllLawful : List Body → Type 0
@@ -28,7 +28,7 @@ one_lawful : (f : Body → Body) → ((a : Body) → Lawful a → Lawful (f a)) 
 one_lawful f keeps [] l = l
 one_lawful f keeps (a ∷ s) l = (keeps a l.0, l.1)
 
-joined_lawful : (j : Join) (a b : Body) → Lawful a → Lawful b → Lawful (joined j a b)
+joined_lawful : (j : Join) (a b : Body) → Lawful a → Lawful b → Lawful (join_of j a b)
 joined_lawful Unite a b k l = unite_lawful a b k l
 joined_lawful Meet a b k l = meet_lawful a b k l
 
@@ -36,14 +36,14 @@ leaf_lawful : (l : Leaf) → Lawful (leaf_body l)
 leaf_lawful (Ball b) = ball_lawful b.centre b.radius (placement_in b.centre b.is_placement)
 leaf_lawful (Block b) = block_lawful b.lo b.hi (placement_in b.lo b.lo_is_placement) (placement_in b.hi b.hi_is_placement) b.upright
 
-step_lawful : (n : Node) (s : List Body) → AllLawful s → AllLawful (step n s)
-step_lawful (Joined j) s l = two_lawful (joined j) (joined_lawful j) s l
+step_lawful : (n : Node) (s : List Body) → AllLawful s → AllLawful (with_node n s)
+step_lawful (Joined j) s l = two_lawful (join_of j) (joined_lawful j) s l
 step_lawful (leaf b) s l = (leaf_lawful b, l)
 step_lawful (Shift v) s l = one_lawful (shift v) (shift_lawful v) s l
 step_lawful (Thicken h) s l = one_lawful (thicken h) (thicken_lawful h) s l
 
 pub standing_lawful : (ns : List Node) (n : ℕ) → AllLawful (standing ns n)
-unfolding gathered
+unfolding gather
 standing_lawful ns zero = tt
 standing_lawful ns (suc n) = step_lawful (slice_index_or ns n (Joined Unite)) (standing ns n) (standing_lawful ns n)
 

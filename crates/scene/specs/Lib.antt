@@ -1,11 +1,11 @@
 pub mod Standing
 pub mod Laws
-pub mod DraftTold
+pub mod DraftCodes
 pub mod Laid
 pub mod Known
 pub mod States
 pub mod Scenes
-pub mod ExactTold
+pub mod ExactCodes
 pub mod Exacts
 pub mod Bounds
 pub mod Parts

@@ -3,12 +3,12 @@
 use Rattle.std.specs.Prelude.{◌≡◌, ℕ, ◌+◌, ◌-◌, ◌/◌, ◌<◌, ◌≤◌, Bool, true, false, List, slice_index_or}
 use Rattle.lattice.specs.declared.Point.{Point}
 use Rattle.solid.specs.Body.{Body}
-use Rattle.geometry.specs.Layers.{unite}
+use Rattle.piles.specs.Layers.{unite}
 use Rattle.scene.specs.declared.node.Node.{Node}
 use Rattle.scene.specs.declared.bound.Bound.{Bound}
 use Rattle.scene.specs.declared.parts.Part.{Part}
 use Rattle.scene.specs.declared.parts.TheConstants.{GROUP}
-use Rattle.scene.specs.Standing.{standing, some, two, top, rest, on_two}
+use Rattle.scene.specs.Standing.{standing, has_one, has_two, top, rest, on_two}
 use Rattle.scene.specs.Bounds.{IsBound}
 
 -- the body that stands last once n nodes are laid down
@@ -19,7 +19,7 @@ last_body ns n = top (standing ns n)
 -- whole does, and no less.
 pub record IsPart (ns : List Node) (n end : ℕ) : Type 0 where
   pub laid : end ≤ n
-  pub stands : some (standing ns end) ≡ true
+  pub stands : has_one (standing ns end) ≡ true
   pub reaches : (last_body ns n).reach ≤ (last_body ns end).reach
   pub no_nearer : (p : Point) → (last_body ns n).clear p ≤ (last_body ns end).clear p
 
@@ -35,7 +35,7 @@ AreBounds ns row k bounds = (i : ℕ) (d : Part) (b : Bound) → i < k → IsBou
 -- the last of the first `end` nodes unites what stands last before it with what stands last once the first `left` are laid down
 pub record Unites (ns : List Node) (end left : ℕ) : Type 0 where
   pub made : standing ns end ≡ on_two unite (standing ns (end - 1))
-  pub fit : two (standing ns (end - 1)) ≡ true
+  pub fit : has_two (standing ns (end - 1)) ≡ true
   pub beside : standing ns left ≡ rest (standing ns (end - 1))
   pub below : left < end
 

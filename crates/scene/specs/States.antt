@@ -6,7 +6,7 @@ use Rattle.scene.specs.declared.draft.Draft.{Draft}
 use Rattle.scene.specs.declared.draft.DraftFault.{DraftFault}
 use Rattle.scene.specs.declared.draft.DraftFault.TheVariants.{Full}
 use Rattle.scene.specs.Standing.{standing}
-use Rattle.scene.specs.Laid.{Laid}
+use Rattle.scene.specs.Laid.{LayAnswer}
 
 abbrev pub State : Type 0
 State = ℕ × List Body
@@ -15,7 +15,7 @@ abbrev pub state : Draft → State
 state d = (d.table.nodes.height, standing d.table.nodes.items d.table.nodes.height)
 
 -- what a call answers, and the state after it: a refusal leaves all as it was
-abbrev pub outcome : Laid → State → Result Unit DraftFault × State
+abbrev pub outcome : LayAnswer → State → Result Unit DraftFault × State
 outcome (Ok t) x = (Ok tt, (x.0 + 1, t))
 outcome (Err e) x = (Err e, x)
 
@@ -24,5 +24,5 @@ abbrev pub room : ℕ → Result Unit DraftFault
 room n = cond (nat_lt n 256) (Ok tt) (Err Full)
 
 -- a node finds room, and is laid down
-abbrev pub lay : (List Body → Laid) → State → Result Unit DraftFault × State
+abbrev pub lay : (List Body → LayAnswer) → State → Result Unit DraftFault × State
 lay on x = outcome (result_and (room x.0) (on x.1)) x

@@ -1,6 +1,6 @@
 //! A scene is filled from a draft, and answers as a solid.
 ghost use Rattle.std.specs.Prelude.{◌≡◌, OnErr};
-ghost use Rattle.geometry.specs.Leaves.{ball};
+ghost use Rattle.piles.specs.Leaves.{ball};
 ghost use Rattle.scene.specs.Standing.{origin};
 ghost use Rattle.scene.specs.States.{state};
 ghost use Rattle.scene.specs.Scenes.{scene_body, scene_lawful, filled};
@@ -11,8 +11,7 @@ use super::node::{Leaf, Node, Summary};
 use super::parts::Parts;
 use super::table::Table;
 use lattice::Point;
-use leaves::LeafPoint;
-use leaves::ball::Ball;
+use leaves::{Ball, LeafPoint};
 use solid::{MOST_CLEARANCE, QuestionFault, Solid, check_asked};
 
 impl Scene {

@@ -1,12 +1,10 @@
 //! Boxes about the bodies of a scene, by which most of them are passed over.
 ghost use Rattle.std.specs.Prelude.{◌≡◌};
 ghost use Rattle.solid.specs.Body.{Body};
-ghost use Rattle.geometry.specs.Leaves.{ball, block};
+ghost use Rattle.piles.specs.Leaves.{ball, block};
 
 use lattice::Point;
-use leaves::LeafPoint;
-use leaves::axis_box::AxisBox;
-use leaves::ball::Ball;
+use leaves::{AxisBox, Ball, LeafPoint};
 use solid::MOST_REACH;
 
 /// The points that lie from `lo` to `hi` on each axis; none where `lo` is above `hi` on one.

@@ -1,19 +1,18 @@
 //! A scene that is being built.
 ghost use Rattle.std.specs.Prelude.{◌≡◌, ◌≤◌, map, Some};
 ghost use Rattle.refusal.specs.Texts.{refusal_text};
-ghost use Rattle.leaves.specs.Told.{leaf_told};
-ghost use Rattle.layers.specs.Told.{layer_told};
-ghost use Rattle.scene.specs.Standing.{standing, summed, stacked};
-ghost use Rattle.scene.specs.DraftTold.{draft_told};
+ghost use Rattle.leaves.specs.Codes.{leaf_code};
+ghost use Rattle.layers.specs.Codes.{layer_code};
+ghost use Rattle.scene.specs.Standing.{standing, summary_of, summaries_of};
+ghost use Rattle.scene.specs.DraftCodes.{draft_code};
 ghost use Rattle.scene.specs.declared.draft.DraftFault.TheVariants.{Leaf, Layer};
 
 use super::node::Summary;
 use super::stack::Stack;
 use super::table::{MOST_NODES, Table};
 use layers::LayerFault;
-use leaves::fault::LeafFault;
-use refusal::told::Told;
-use refusal::{Refusal, Rule};
+use leaves::LeafFault;
+use refusal::{Refusal, RefusalCode, Rule};
 use std::fmt;
 
 mod laying;
@@ -24,7 +23,7 @@ pub struct Draft {
     pub(crate) table: Table,
     summaries: Stack<Summary, MOST_NODES>,
     ghost fewer: { summaries.height ≤ table.nodes.height },
-    ghost tally: { map summed (standing table.nodes.items table.nodes.height) ≡ stacked summaries.items summaries.height },
+    ghost tally: { map summary_of (standing table.nodes.items table.nodes.height) ≡ summaries_of summaries.items summaries.height },
 }
 
 /// Why a node is not laid down, or a draft is no scene.
@@ -45,7 +44,7 @@ pub enum DraftFault {
 }
 
 impl Refusal for DraftFault {
-    ghost told = { draft_told };
+    ghost code = { draft_code };
 
     fn number(&self) -> u32 {
         match self {
@@ -68,10 +67,10 @@ impl Refusal for DraftFault {
 }
 
 impl fmt::Display for DraftFault {
-    ghost output = { λ fault. Some (refusal_text (draft_told fault)) };
+    ghost output = { λ fault. Some (refusal_text (draft_code fault)) };
 
     fn fmt<W: fmt::Write>(&self, f: &mut fmt::Formatter<W>) -> fmt::Result {
-        Told::of(self).fmt(f)
+        RefusalCode::of(self).fmt(f)
     }
 }
 

@@ -2,11 +2,10 @@
 ghost use Rattle.std.specs.Prelude.{◌≡◌, true, Some};
 ghost use Rattle.refusal.specs.Texts.{refusal_text};
 ghost use Rattle.scene.specs.Standing.{standing, top};
-ghost use Rattle.scene.specs.ExactTold.{exact_told};
+ghost use Rattle.scene.specs.ExactCodes.{exact_code};
 
 use super::Scene;
-use refusal::told::Told;
-use refusal::{Refusal, Rule};
+use refusal::{Refusal, RefusalCode, Rule};
 use std::fmt;
 
 pub mod filling;
@@ -26,7 +25,7 @@ pub enum ExactFault {
 }
 
 impl Refusal for ExactFault {
-    ghost told = { exact_told };
+    ghost code = { exact_code };
 
     fn number(&self) -> u32 {
         match self {
@@ -40,9 +39,9 @@ impl Refusal for ExactFault {
 }
 
 impl fmt::Display for ExactFault {
-    ghost output = { λ fault. Some (refusal_text (exact_told fault)) };
+    ghost output = { λ fault. Some (refusal_text (exact_code fault)) };
 
     fn fmt<W: fmt::Write>(&self, f: &mut fmt::Formatter<W>) -> fmt::Result {
-        Told::of(self).fmt(f)
+        RefusalCode::of(self).fmt(f)
     }
 }

@@ -2,21 +2,24 @@
 #![tactic(auto)]
 
 ghost use Rattle.std.specs.Prelude.{◌≡◌, ◌≤◌, true};
-ghost use Rattle.scene.specs.Standing.{standing, some, top};
+ghost use Rattle.scene.specs.Standing.{standing, has_one, top};
 ghost use Rattle.scene.specs.Parts.{AreParts, AreBounds};
 
 use node::Summary;
 use parts::Parts;
 use table::Table;
 
-pub mod answers;
+mod answers;
 mod bound;
-pub mod draft;
-pub mod exact;
+mod draft;
+mod exact;
 mod node;
 mod parts;
 mod stack;
 mod table;
+
+pub use draft::{Draft, DraftFault};
+pub use exact::{ExactFault, ExactScene};
 
 /// A scene: the body that stands last once all nodes of its table are laid down. It is exact where
 /// every node in it is.
@@ -25,7 +28,7 @@ pub struct Scene {
     table: Table,
     parts: Parts,
     summary: Summary,
-    ghost stands: { some (standing table.nodes.items table.nodes.height) ≡ true },
+    ghost stands: { has_one (standing table.nodes.items table.nodes.height) ≡ true },
     ghost far: { summary.reach ≡ (top (standing table.nodes.items table.nodes.height)).reach },
     ghost sure: { summary.exact ≡ (top (standing table.nodes.items table.nodes.height)).exact },
     ghost divided: { AreParts table.nodes.items table.nodes.height parts.row.items parts.row.height },

@@ -1,12 +1,10 @@
 //! The nodes of a scene.
 ghost use Rattle.std.specs.Prelude.{◌≡◌, min};
-ghost use Rattle.scene.specs.Standing.{summed, joined_summary};
+ghost use Rattle.scene.specs.Standing.{summary_of, joined_summary};
 
 use super::bound::Bound;
 use lattice::Point;
-use leaves::LeafPoint;
-use leaves::axis_box::AxisBox;
-use leaves::ball::Ball;
+use leaves::{AxisBox, Ball, LeafPoint};
 use solid::Exact;
 
 /// How two bodies that stand become one.
@@ -42,7 +40,7 @@ pub struct Summary {
 impl Summary {
     /// The summary of an exact solid.
     pub(crate) fn of<S: Exact>(solid: &S) -> Summary
-        ensures { result ≡ summed (S.Solid.body solid.now) }
+        ensures { result ≡ summary_of (S.Solid.body solid.now) }
     {
         solid.exactly();
         Summary {

@@ -2,7 +2,7 @@
 ghost use Rattle.std.specs.Prelude.{◌≡◌, ℕ, ◌*◌, ◌+◌, ◌-◌, ◌<◌, ◌≤◌, false, true, min, replicate, slice_index_or, slice_set, take};
 ghost use Rattle.std.specs.List.Sorted.{IsPermutation};
 ghost use Rattle.lattice.specs.Space.{In};
-ghost use Rattle.scene.specs.Standing.{standing, some};
+ghost use Rattle.scene.specs.Standing.{standing, has_one};
 ghost use Rattle.scene.specs.Parts.{AreParts, AreBounds};
 
 use super::bound::Bound;
@@ -38,7 +38,7 @@ impl Parts {
 
     /// The parts of the body that stands last in a table.
     pub(crate) fn of(table: &Table) -> Parts
-        requires { some (standing table.now.nodes.items table.now.nodes.height) ≡ true }
+        requires { has_one (standing table.now.nodes.items table.now.nodes.height) ≡ true }
         ensures parts { AreParts table.now.nodes.items table.now.nodes.height result.row.items result.row.height }
         ensures bounds { AreBounds table.now.nodes.items result.row.items result.row.height result.bounds }
     {
@@ -113,7 +113,7 @@ impl Search {
 
     /// The parts of the body that stands last in a table.
     fn parts_of(table: &Table) -> Stack<Part, MOST_NODES>
-        requires { some (standing table.now.nodes.items table.now.nodes.height) ≡ true }
+        requires { has_one (standing table.now.nodes.items table.now.nodes.height) ≡ true }
         ensures room { result.height ≤ 256 }
         ensures parts { AreParts table.now.nodes.items table.now.nodes.height result.items result.height }
     {

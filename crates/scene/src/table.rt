@@ -3,7 +3,7 @@ ghost use Rattle.std.specs.Prelude.{◌≡◌, ℕ, ◌+◌, ◌-◌, ◌<◌, �
 ghost use Rattle.lattice.specs.Space.{In};
 ghost use Rattle.scene.specs.declared.node.Join.TheVariants.{Unite};
 ghost use Rattle.scene.specs.declared.node.Node.TheVariants.{Joined};
-ghost use Rattle.scene.specs.Standing.{standing, step, fits, some, top, rest, IsStart};
+ghost use Rattle.scene.specs.Standing.{standing, with_node, can_take, has_one, top, rest, IsStart};
 ghost use Rattle.scene.specs.Bounds.{IsBound};
 ghost use Rattle.scene.specs.Parts.{last_body, Unites};
 
@@ -24,7 +24,7 @@ pub struct Table {
     /// For each node, how many were laid down before it and all that it takes.
     starts: [u8; MOST_NODES],
     ghost room: { nodes.height ≤ 256 },
-    ghost sound: { (k : ℕ) → k < nodes.height → fits (slice_index_or nodes.items k (Joined Unite)) (standing nodes.items k) ≡ true },
+    ghost sound: { (k : ℕ) → k < nodes.height → can_take (slice_index_or nodes.items k (Joined Unite)) (standing nodes.items k) ≡ true },
     ghost started: { (k : ℕ) → k < nodes.height → IsStart nodes.items k (slice_index_or starts k 0) },
 }
 
@@ -49,9 +49,9 @@ impl Table {
     /// Lays down one node more.
     pub(crate) fn push(&mut self, node: Node)
         requires room { self.old.nodes.height < 256 }
-        requires fit { fits node (standing self.old.nodes.items self.old.nodes.height) ≡ true }
+        requires fit { can_take node (standing self.old.nodes.items self.old.nodes.height) ≡ true }
         ensures counted { self.new.nodes.height ≡ self.old.nodes.height + 1 }
-        ensures made { standing self.new.nodes.items self.new.nodes.height ≡ step node (standing self.old.nodes.items self.old.nodes.height) }
+        ensures made { standing self.new.nodes.items self.new.nodes.height ≡ with_node node (standing self.old.nodes.items self.old.nodes.height) }
     {
         self.starts[self.nodes.height] = self.start_with(&node) as u8;
         self.nodes.push(node);
@@ -59,9 +59,9 @@ impl Table {
 
     /// How many nodes come before one more and all that it takes.
     fn start_with(&self, node: &Node) -> usize
-        requires { fits node.now (standing self.now.nodes.items self.now.nodes.height) ≡ true }
+        requires { can_take node.now (standing self.now.nodes.items self.now.nodes.height) ≡ true }
         ensures earlier { result ≤ self.now.nodes.height }
-        ensures before { standing self.now.nodes.items result ≡ rest (step node.now (standing self.now.nodes.items self.now.nodes.height)) }
+        ensures before { standing self.now.nodes.items result ≡ rest (with_node node.now (standing self.now.nodes.items self.now.nodes.height)) }
     {
         let count = self.nodes.height;
         match node {
@@ -87,8 +87,8 @@ impl Table {
     fn last_of(&self, end: usize) -> &Node
         requires some { 1 ≤ end }
         requires laid { end ≤ self.now.nodes.height }
-        ensures made { standing self.now.nodes.items end ≡ step result.now (standing self.now.nodes.items (end - 1)) }
-        ensures fit { fits result.now (standing self.now.nodes.items (end - 1)) ≡ true }
+        ensures made { standing self.now.nodes.items end ≡ with_node result.now (standing self.now.nodes.items (end - 1)) }
+        ensures fit { can_take result.now (standing self.now.nodes.items (end - 1)) ≡ true }
     {
         &self.nodes.items[end - 1]
     }
@@ -125,7 +125,7 @@ impl Table {
     #[inline(always)]
     pub(crate) fn ask_part(&self, end: usize, p: LeafPoint, most: u32) -> u32
         requires laid { end ≤ self.now.nodes.height }
-        requires stands { some (standing self.now.nodes.items end) ≡ true }
+        requires stands { has_one (standing self.now.nodes.items end) ≡ true }
         requires near { In (top (standing self.now.nodes.items end)).reach p.at }
         ensures { result ≡ min most ((top (standing self.now.nodes.items end)).clear p.at) }
     {
@@ -139,7 +139,7 @@ impl Table {
     /// that is smaller.
     pub(crate) fn ask(&self, end: usize, p: Point, most: u32) -> u32
         requires laid { end ≤ self.now.nodes.height }
-        requires stands { some (standing self.now.nodes.items end) ≡ true }
+        requires stands { has_one (standing self.now.nodes.items end) ≡ true }
         requires near { In (top (standing self.now.nodes.items end)).reach p }
         ensures { result ≡ min most ((top (standing self.now.nodes.items end)).clear p) }
     {

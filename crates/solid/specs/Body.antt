@@ -1,6 +1,7 @@
 -- What a solid means.
 use Rattle.std.specs.Prelude.{◌≡◌, ℕ, ◌+◌, ◌≤◌, Bool, true}
 use Rattle.lattice.specs.Space.{dist, In}
+use Rattle.solid.specs.declared.TheConstants.{MOST_REACH, MOST_CLEARANCE}
 use Rattle.lattice.specs.declared.Point.{Point}
 
 -- A body: a set of points (its members, by their characteristic function), a reach, a clearance at each point, and whether it
@@ -14,8 +15,8 @@ pub record Body : Type 0 where
 -- The laws. Every solid of the kit keeps them, and all that is promised of marches rests on them alone.
 pub record Lawful (b : Body) : Type 0 where
   -- the bounds on the reach and on a clearance
-  pub near_enough : b.reach ≤ 1048576
-  pub small : (p : Point) → In b.reach p → b.clear p ≤ 2097151
+  pub near_enough : b.reach ≤ MOST_REACH
+  pub small : (p : Point) → In b.reach p → b.clear p ≤ MOST_CLEARANCE
   -- the clearance is 0 exactly at members
   pub inside : (p : Point) → In b.reach p → b.member p ≡ true → b.clear p ≡ 0
   pub outside : (p : Point) → In b.reach p → b.clear p ≡ 0 → b.member p ≡ true

@@ -1,3 +1,3 @@
 pub mod Body
 pub mod Answer
-pub mod Told
+pub mod Codes

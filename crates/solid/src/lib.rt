@@ -5,12 +5,11 @@
 ghost use Rattle.std.specs.Prelude.{◌≡◌, ℕ, ◌≤◌, true, Some};
 ghost use Rattle.refusal.specs.Texts.{refusal_text};
 ghost use Rattle.solid.specs.Body.{Body, Lawful};
-ghost use Rattle.solid.specs.Answer.{answer, answer_up_to, asked};
-ghost use Rattle.solid.specs.Told.{question_told};
+ghost use Rattle.solid.specs.Answer.{answer, answer_up_to, check_asked};
+ghost use Rattle.solid.specs.Codes.{question_code};
 
 use lattice::Point;
-use refusal::told::Told;
-use refusal::{Refusal, Rule};
+use refusal::{Refusal, RefusalCode, Rule};
 use std::fmt;
 
 /// Why a question is refused.
@@ -21,7 +20,7 @@ pub enum QuestionFault {
 }
 
 impl Refusal for QuestionFault {
-    ghost told = { question_told };
+    ghost code = { question_code };
 
     fn number(&self) -> u32 {
         match self {
@@ -35,16 +34,16 @@ impl Refusal for QuestionFault {
 }
 
 impl fmt::Display for QuestionFault {
-    ghost output = { λ fault. Some (refusal_text (question_told fault)) };
+    ghost output = { λ fault. Some (refusal_text (question_code fault)) };
 
     fn fmt<W: fmt::Write>(&self, f: &mut fmt::Formatter<W>) -> fmt::Result {
-        Told::of(self).fmt(f)
+        RefusalCode::of(self).fmt(f)
     }
 }
 
 /// Checks that a solid of that reach may be asked at the point.
 pub fn check_asked(reach: u32, p: Point) -> Result<(), QuestionFault>
-    ensures { result ≡ asked reach p }
+    ensures { result ≡ check_asked reach p }
 {
     if !p.within(reach) {
         return Err(QuestionFault::BeyondReach);

@@ -4,10 +4,8 @@
 use anyhow::anyhow;
 use lattice::Point;
 use layers::{Cap, Meet, Shift, Thicken, Unite};
-use leaves::axis_box::AxisBox;
-use leaves::ball::Ball;
-use march::rays::{Marching, Outcome, Settled, Stepped};
-use march::view::ViewNumbers;
+use leaves::{AxisBox, Ball};
+use march::{Marching, Outcome, Settled, Stepped, ViewNumbers};
 use solid::Solid;
 use std::fmt;
 
@@ -43,7 +41,7 @@ fn send<S: Solid>(
     };
     println!(rt; "pixel ({i}, {j}) is sent")?;
     for _ in 0..MOST_STEPS {
-        let at = ray.tip();
+        let at = ray.next_point();
         if let Ok(c) = pile.clearance(at) {
             println!(rt;
                 "  t {}: at ({}, {}, {}) the clearance is {c}",

@@ -2,11 +2,9 @@
 use super::{made, refused, straight_down};
 use lattice::Point;
 use layers::Unite;
-use leaves::axis_box::AxisBox;
-use leaves::surface::{Sheet, Surface};
-use march::pixel::Pixel;
-use plate::Plate;
-use plate_log::fault::PlateFault;
+use leaves::{AxisBox, Sheet, Surface};
+use march::Pixel;
+use plate::{Plate, PlateFault};
 use solid::Solid;
 
 /// The sides of the plate, and its records: one for each pixel, and one that stays as it is.

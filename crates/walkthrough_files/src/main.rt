@@ -2,10 +2,10 @@
 #![tactic(auto)]
 
 use anyhow::anyhow;
-use kit::{MOST_BYTES, MOST_PIXELS, render};
-use march::pixel::Pixel;
+use march::Pixel;
 use picture::{tell_answer, tell_changes, tell_words, words_of};
-use words::writing::WORD;
+use render::{MOST_BYTES, MOST_PIXELS, render};
+use words::WORD;
 
 mod model;
 mod picture;

@@ -1,6 +1,6 @@
 //! The bytes of a model: a job, a scene and a surface, written word by word.
 use std::alloc::{AllocError, Global};
-use words::kind::{FIRST_OF_TWO, Kind};
+use words::{FIRST_OF_TWO, Kind};
 
 /// The words of each node, its numbers among them.
 const BALL_WORDS: u32 = 5;

@@ -1,9 +1,9 @@
 //! The words of an answer, and what they say: a picture, or why the input is refused.
 use anyhow::anyhow;
-use refusal::told::Told;
+use refusal::RefusalCode;
 use std::alloc::{AllocError, Global};
 use std::fmt;
-use words::kind::{FIRST_OF_TWO, Kind};
+use words::{FIRST_OF_TWO, Kind};
 
 /// How many words are printed in a line.
 const LINE: usize = 10;
@@ -90,7 +90,7 @@ fn tell_refusal(rt: &HostRuntime, word: u32) -> anyhow::Result<()> {
     let part = (word >> 24) & 0xf;
     let number = (word >> 16) & 0xff;
     let place = lower(word);
-    let told = Told { number, place };
+    let told = RefusalCode { number, place };
     println!(rt; "{word:08x}: part {part} is {told}")?;
     Ok(())
 }

@@ -5,8 +5,10 @@ use Rattle.std.proofs.lemmas.Int.{ints}
 use Rattle.std.proofs.lemmas.Bool.Decides.{nat_tests}
 use Rattle.lattice.specs.declared.Point.{Point}
 use Rattle.words.specs.declared.fault.WordFault.TheVariants.{Unnamed}
-use Rattle.words.specs.Words.{signed, of_kind}
-use Rattle.words.specs.Reading.{unless, in_range, is_row, word_at, kind_at, bare_at, number_at, number_in, row_at, point_at, point_in}
+use Rattle.words.specs.Words.{signed_number, of_kind}
+use Rattle.refusal.specs.Checks.{unless}
+use Rattle.refusal.specs.Ranges.{between}
+use Rattle.words.specs.Reading.{is_row, word_at, kind_at, bare_at, number_at, number_in, row_at, point_at, point_in}
 use Rattle.words.specs.Encoding.{bytes_of, signed_word, NumbersReadBack}
 
 at_four : (a b c d : ℕ) (bs : List ℕ) (k i : ℕ) → get_or (a ∷ b ∷ c ∷ d ∷ bs) (4 * suc k + i) 0 ≡ get_or bs (4 * k + i) 0
@@ -60,23 +62,23 @@ numbers_back ws rest k (negsuc n) h e l =
     let b : n < 32768 = grind (arith, nat_tests) in
     let p = kind_back ws rest k h 2 2 2 (65535 - n) e (omega arith) (omega arith) (omega arith) (omega arith) in
     let f : ltb (65535 - n) 65536 ≡ true = grind (arith, nat_tests) in
-    let g : signed (65535 - n) ≡ negsuc n = grind (arith, ints, nat_tests) in
-    simp p (ap (λ b. unless b (Unnamed k) (Ok (signed (65535 - n)))) f ∙ ap Ok g)
+    let g : signed_number (65535 - n) ≡ negsuc n = grind (arith, ints, nat_tests) in
+    simp p (ap (λ b. unless b (Unnamed k) (Ok (signed_number (65535 - n)))) f ∙ ap Ok g)
 
 -- a range of 16-bit numbers
 abbrev pub Ranged : (lo hi : ℤ) → Type 0
-Ranged lo hi = (in_range (negsuc 32767) (pos 32767) lo ≡ true) × (in_range (negsuc 32767) (pos 32767) hi ≡ true)
+Ranged lo hi = (between (negsuc 32767) (pos 32767) lo ≡ true) × (between (negsuc 32767) (pos 32767) hi ≡ true)
 
-wider : (lo hi n : ℤ) → Ranged lo hi → in_range lo hi n ≡ true → in_range (negsuc 32767) (pos 32767) n ≡ true
+wider : (lo hi n : ℤ) → Ranged lo hi → between lo hi n ≡ true → between (negsuc 32767) (pos 32767) n ≡ true
 wider lo hi n w r = let a = w.0 in let b = w.1 in grind (arith, ints)
 
-pub number_in_back : (ws rest : List ℕ) (k : ℕ) (lo hi n : ℤ) → k < length ws → get_or ws k 0 ≡ signed_word n → Ranged lo hi → in_range lo hi n ≡ true → number_in (bytes_of ws ++ rest) k lo hi ≡ Ok n
+pub number_in_back : (ws rest : List ℕ) (k : ℕ) (lo hi n : ℤ) → k < length ws → get_or ws k 0 ≡ signed_word n → Ranged lo hi → between lo hi n ≡ true → number_in (bytes_of ws ++ rest) k lo hi ≡ Ok n
 unfolding number_in
 number_in_back ws rest k lo hi n h e w r = simp (numbers_back ws rest k n h e (wider lo hi n w r), r)
 
 pub row_back : (ws rest : List ℕ) (k : ℕ) (n : ℤ) → k < length ws → get_or ws k 0 ≡ signed_word n → is_row n ≡ true → row_at (bytes_of ws ++ rest) k ≡ Ok n
 unfolding row_at
-row_back ws rest k n h e r = let l : in_range (negsuc 32767) (pos 32767) n ≡ true = grind (arith, ints, nat_tests) in simp (numbers_back ws rest k n h e l, r)
+row_back ws rest k n h e r = let l : between (negsuc 32767) (pos 32767) n ≡ true = grind (arith, ints, nat_tests) in simp (numbers_back ws rest k n h e l, r)
 
 pub point_back : (ws rest : List ℕ) (k : ℕ) (lo hi : ℤ) (p : Point) → k + 2 < length ws → get_or ws k 0 ≡ signed_word p.x → get_or ws (k + 1) 0 ≡ signed_word p.y → get_or ws (k + 2) 0 ≡ signed_word p.z → Ranged lo hi → point_in lo hi p ≡ true → point_at (bytes_of ws ++ rest) k lo hi ≡ Ok p
 unfolding point_at

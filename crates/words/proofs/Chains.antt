@@ -1,6 +1,6 @@
 -- A chain of readings that answers Ok answered Ok at each link.
 use Rattle.std.proofs.Common.{◌≡◌, ℕ, Bool, true, false, Ok, Err, Result, refl, arith}
-use Rattle.words.specs.Reading.{and_then, unless}
+use Rattle.refusal.specs.Checks.{and_then, unless}
 
 pub first_ok : {A B E : Type 0} (r : Result A E) (f : A → Result B E) (y : B) → and_then r f ≡ Ok y → (x : A) × ((r ≡ Ok x) × (f x ≡ Ok y))
 first_ok (Ok x) f y h = (x, (refl, h))

@@ -2,16 +2,17 @@
 use Rattle.std.proofs.Common.{◌≡◌, ℕ, ◌+◌, true, List, ℤ, Ok, subst}
 use Rattle.lattice.specs.declared.Point.{Point}
 use Rattle.words.specs.declared.fault.WordFault.TheVariants.{Range, Row}
-use Rattle.words.specs.Reading.{in_range, is_row, number_at, number_in, row_at, point_at, point_in}
+use Rattle.refusal.specs.Ranges.{between}
+use Rattle.words.specs.Reading.{is_row, number_at, number_in, row_at, point_at, point_in}
 use Rattle.words.proofs.Chains.{first_ok, test_held, same_ok}
 
 module _ (bs : List ℕ) (k : ℕ) where
-  pub number_in_range : (lo hi n : ℤ) → number_in bs k lo hi ≡ Ok n → in_range lo hi n ≡ true
+  pub number_in_range : (lo hi n : ℤ) → number_in bs k lo hi ≡ Ok n → between lo hi n ≡ true
   unfolding number_in
   number_in_range lo hi n h =
       let p = first_ok (number_at bs k) _ n h in
-      let q = test_held (in_range lo hi p.0) (Range k) (Ok p.0) n p.1.1 in
-      subst (λ m. in_range lo hi m ≡ true) (same_ok _ _ q.1) q.0
+      let q = test_held (between lo hi p.0) (Range k) (Ok p.0) n p.1.1 in
+      subst (λ m. between lo hi m ≡ true) (same_ok _ _ q.1) q.0
 
   pub row_is_row : (n : ℤ) → row_at bs k ≡ Ok n → is_row n ≡ true
   unfolding row_at

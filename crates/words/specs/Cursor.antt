@@ -10,8 +10,8 @@ abbrev pub place : Reader → ℕ
 place r = r.at
 
 -- the bytes that are left
-abbrev pub ahead : Reader → List ℕ
-ahead r = drop (4 * place r) (text r)
+abbrev pub bytes_left : Reader → List ℕ
+bytes_left r = drop (4 * place r) (text r)
 
 -- on by n words where the call answered Ok, and else where it was
 pub record Moved {A E : Type 0} (r : Result A E) (n : ℕ) (old new : Reader) : Type 0 where
@@ -20,5 +20,5 @@ pub record Moved {A E : Type 0} (r : Result A E) (n : ℕ) (old new : Reader) : 
 
 -- a part begun at the word that was due, of which n words are read
 pub record Begun (n : ℕ) (old new : Reader) : Type 0 where
-  pub text : text new ≡ ahead old
+  pub text : text new ≡ bytes_left old
   pub at : new.at ≡ n

@@ -1,12 +1,13 @@
 -- Words as they are written into a file, and the law that what is written is read back.
 use Rattle.std.specs.Prelude.{◌≡◌, ℕ, ◌-◌, ◌<◌, true, List, [], ◌∷◌, ◌++◌, length, ℤ, pos, negsuc, Ok, slice_index}
-use Rattle.words.specs.Words.{four, of_kind}
-use Rattle.words.specs.Reading.{in_range, number_at}
+use Rattle.words.specs.Words.{four_bytes, of_kind}
+use Rattle.refusal.specs.Ranges.{between}
+use Rattle.words.specs.Reading.{number_at}
 
 -- words as bytes
 abbrev pub bytes_of : List ℕ → List ℕ
 bytes_of [] = []
-bytes_of (w ∷ ws) = four w ++ bytes_of ws
+bytes_of (w ∷ ws) = four_bytes w ++ bytes_of ws
 
 -- the word of a number, in two's complement
 abbrev pub signed_word : ℤ → ℕ
@@ -15,4 +16,4 @@ signed_word (negsuc n) = of_kind 2 (65535 - n)
 
 -- the word of a 16-bit number, at any place among others, is read as that number
 abbrev pub NumbersReadBack : Type 0
-NumbersReadBack = (ws rest : List ℕ) (k : ℕ) (n : ℤ) → k < length ws → slice_index ws k ≡ signed_word n → in_range (negsuc 32767) (pos 32767) n ≡ true → number_at (bytes_of ws ++ rest) k ≡ Ok n
+NumbersReadBack = (ws rest : List ℕ) (k : ℕ) (n : ℤ) → k < length ws → slice_index ws k ≡ signed_word n → between (negsuc 32767) (pos 32767) n ≡ true → number_at (bytes_of ws ++ rest) k ≡ Ok n

@@ -1,23 +1,16 @@
 -- What is read of a word, from the bytes of a part and the word's place in it: a value, or why the word is refused.
 use Rattle.std.specs.Prelude.{ℕ, ◌+◌, ◌*◌, ◌/◌, ◌%◌, Bool, cond, ◌&&◌, ◌||◌, List, length, ℤ, pos, negsuc, Ok, Err, Result, ◌==◌, int_le, nat_le, nat_lt, slice_index}
+use Rattle.refusal.specs.Checks.{and_then, unless}
+use Rattle.refusal.specs.Ranges.{between}
 use Rattle.lattice.specs.declared.Point.{Point}
 use Rattle.words.specs.declared.fault.WordFault.{WordFault}
 use Rattle.words.specs.declared.fault.WordFault.TheVariants.{Short, Kind, Unnamed, Range, Row}
-use Rattle.words.specs.Words.{signed}
-
--- go on with the value, or stop at the fault
-abbrev pub and_then : {A B E : Type 0} → Result A E → (A → Result B E) → Result B E
-and_then (Ok x) f = f x
-and_then (Err e) f = Err e
+use Rattle.words.specs.Words.{signed_number}
 
 -- what a call answers, with a value that it leaves
-abbrev pub held : {A B E : Type 0} → Result A E → B → Result B E
-held (Ok x) y = Ok y
-held (Err e) y = Err e
-
--- go on where the test holds, or stop at the fault
-abbrev pub unless : {A E : Type 0} → Bool → E → Result A E → Result A E
-unless b e r = cond b r (Err e)
+abbrev pub answer_with : {A B E : Type 0} → Result A E → B → Result B E
+answer_with (Ok x) y = Ok y
+answer_with (Err e) y = Err e
 
 -- a word's four bytes, least significant first
 unfoldable pub word_at : List ℕ → (place : ℕ) → Result ℕ WordFault
@@ -46,24 +39,21 @@ bare_at bs k least most = and_then (kind_at bs k least most) (λ w. unless (w.1 
 
 -- a number word: kind 2, and a number in bits 15..0
 unfoldable pub number_at : List ℕ → (place : ℕ) → Result ℤ WordFault
-number_at bs k = and_then (kind_at bs k 2 2) (λ w. unless (nat_lt w.1 65536) (Unnamed k) (Ok (signed w.1)))
+number_at bs k = and_then (kind_at bs k 2 2) (λ w. unless (nat_lt w.1 65536) (Unnamed k) (Ok (signed_number w.1)))
 
 -- a number from lo to hi
-abbrev pub in_range : (lo hi n : ℤ) → Bool
-in_range lo hi n = int_le lo n && int_le n hi
-
 unfoldable pub number_in : List ℕ → (place : ℕ) → (lo hi : ℤ) → Result ℤ WordFault
-number_in bs k lo hi = and_then (number_at bs k) (λ n. unless (in_range lo hi n) (Range k) (Ok n))
+number_in bs k lo hi = and_then (number_at bs k) (λ n. unless (between lo hi n) (Range k) (Ok n))
 
 -- a row of the table of directions: 0 to 26, but not 13, which does not move
 abbrev pub is_row : ℤ → Bool
-is_row n = in_range (pos 0) (pos 12) n || in_range (pos 14) (pos 26) n
+is_row n = between (pos 0) (pos 12) n || between (pos 14) (pos 26) n
 
 unfoldable pub row_at : List ℕ → (place : ℕ) → Result ℤ WordFault
 row_at bs k = and_then (number_at bs k) (λ n. unless (is_row n) (Row k) (Ok n))
 
 abbrev pub point_in : (lo hi : ℤ) → Point → Bool
-point_in lo hi p = in_range lo hi p.x && (in_range lo hi p.y && in_range lo hi p.z)
+point_in lo hi p = between lo hi p.x && (between lo hi p.y && between lo hi p.z)
 
 -- a point: three numbers, each from lo to hi
 unfoldable pub point_at : List ℕ → (place : ℕ) → (lo hi : ℤ) → Result Point WordFault
@@ -72,8 +62,8 @@ point_at bs k lo hi =
     Ok (record { x = x; y = y; z = z }))))
 
 -- an origin, a centre or a corner: coordinates in -16384..16383
-abbrev pub place_at : List ℕ → (place : ℕ) → Result Point WordFault
-place_at bs k = point_at bs k (negsuc 16383) (pos 16383)
+abbrev pub placement_at : List ℕ → (place : ℕ) → Result Point WordFault
+placement_at bs k = point_at bs k (negsuc 16383) (pos 16383)
 
 -- an offset: parts in -16383..16383
 abbrev pub offset_at : List ℕ → (place : ℕ) → Result Point WordFault

@@ -2,16 +2,16 @@
 use Rattle.std.specs.Prelude.{ℕ, ◌+◌, ◌*◌, ◌/◌, ◌%◌, cond, List, [], ◌∷◌, ℤ, pos, ◌-ℤ◌, nat_lt}
 
 -- a word as bytes
-abbrev pub four : ℕ → List ℕ
-four w = (w % 256) ∷ (w / 256 % 256) ∷ (w / 65536 % 256) ∷ (w / 16777216 % 256) ∷ []
+abbrev pub four_bytes : ℕ → List ℕ
+four_bytes w = (w % 256) ∷ (w / 256 % 256) ∷ (w / 65536 % 256) ∷ (w / 16777216 % 256) ∷ []
 
 -- a word of a kind, by its other 28 bits
 abbrev pub of_kind : (kind rest : ℕ) → ℕ
 of_kind kind rest = kind * 268435456 + rest
 
 -- 16 bits as a number in two's complement
-abbrev pub signed : ℕ → ℤ
-signed n = cond (nat_lt n 32768) (pos n) (pos n -ℤ pos 65536)
+abbrev pub signed_number : ℕ → ℤ
+signed_number n = cond (nat_lt n 32768) (pos n) (pos n -ℤ pos 65536)
 
 -- a number word: a 16-bit two's complement number in bits 15..0; this is the one of a natural number below 32,768
 abbrev pub number_word : ℕ → ℕ

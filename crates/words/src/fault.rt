@@ -1,10 +1,9 @@
 //! Why a word is refused.
 ghost use Rattle.std.specs.Prelude.{◌≡◌, Some};
 ghost use Rattle.refusal.specs.Texts.{refusal_text};
-ghost use Rattle.words.specs.Told.{word_told, place_told};
+ghost use Rattle.words.specs.Codes.{word_code, place_as_u32};
 
-use refusal::told::Told;
-use refusal::{Refusal, Rule};
+use refusal::{Refusal, RefusalCode, Rule};
 use std::fmt;
 
 /// Why a word is refused. Its place is counted in words from 0, at the first word of its part.
@@ -23,14 +22,14 @@ pub enum WordFault {
 }
 
 /// A place as it is told: one past the highest is told as the highest.
-pub fn tell(place: usize) -> u32
-    ensures { result ≡ place_told place }
+pub fn place_as_u32(place: usize) -> u32
+    ensures { result ≡ place_as_u32 place }
 {
     u32::try_from(place).unwrap_or(u32::MAX)
 }
 
 impl Refusal for WordFault {
-    ghost told = { word_told };
+    ghost code = { word_code };
 
     fn number(&self) -> u32 {
         match self {
@@ -48,15 +47,15 @@ impl Refusal for WordFault {
             | WordFault::Kind { place }
             | WordFault::Unnamed { place }
             | WordFault::Range { place }
-            | WordFault::Row { place } => tell(*place),
+            | WordFault::Row { place } => place_as_u32(*place),
         }
     }
 }
 
 impl fmt::Display for WordFault {
-    ghost output = { λ fault. Some (refusal_text (word_told fault)) };
+    ghost output = { λ fault. Some (refusal_text (word_code fault)) };
 
     fn fmt<W: fmt::Write>(&self, f: &mut fmt::Formatter<W>) -> fmt::Result {
-        Told::of(self).fmt(f)
+        RefusalCode::of(self).fmt(f)
     }
 }

@@ -1,11 +1,10 @@
 //! The kinds of words.
 ghost use Rattle.std.specs.Prelude.{◌≡◌, Some};
 ghost use Rattle.refusal.specs.Texts.{refusal_text};
-ghost use Rattle.words.specs.Told.{kind_told};
+ghost use Rattle.words.specs.Codes.{kind_code};
 ghost use Rattle.words.specs.Kinds.{kind_number, kind_word, Names};
 
-use refusal::told::Told;
-use refusal::{Refusal, Rule};
+use refusal::{Refusal, RefusalCode, Rule};
 use std::fmt;
 
 /// What a word is. Its number stands in the word's bits 31..28.
@@ -46,7 +45,7 @@ pub enum Kind {
 pub struct UnknownKind(pub u32);
 
 impl Refusal for UnknownKind {
-    ghost told = { kind_told };
+    ghost code = { kind_code };
 
     fn number(&self) -> u32 {
         Rule::Kind.number()
@@ -58,10 +57,10 @@ impl Refusal for UnknownKind {
 }
 
 impl fmt::Display for UnknownKind {
-    ghost output = { λ fault. Some (refusal_text (kind_told fault)) };
+    ghost output = { λ fault. Some (refusal_text (kind_code fault)) };
 
     fn fmt<W: fmt::Write>(&self, f: &mut fmt::Formatter<W>) -> fmt::Result {
-        Told::of(self).fmt(f)
+        RefusalCode::of(self).fmt(f)
     }
 }
 

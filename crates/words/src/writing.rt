@@ -1,11 +1,10 @@
 //! Words as they are written.
 ghost use Rattle.std.specs.Prelude.{◌≡◌, Some};
 ghost use Rattle.refusal.specs.Texts.{refusal_text};
-ghost use Rattle.words.specs.Told.{put_told};
+ghost use Rattle.words.specs.Codes.{put_code};
 ghost use Rattle.words.specs.Writing.{word_put};
 
-use refusal::told::Told;
-use refusal::{Refusal, Rule};
+use refusal::{Refusal, RefusalCode, Rule};
 use std::fmt;
 
 /// The bytes of a word.
@@ -19,7 +18,7 @@ pub enum PutFault {
 }
 
 impl Refusal for PutFault {
-    ghost told = { put_told };
+    ghost code = { put_code };
 
     fn number(&self) -> u32 {
         match self {
@@ -33,10 +32,10 @@ impl Refusal for PutFault {
 }
 
 impl fmt::Display for PutFault {
-    ghost output = { λ fault. Some (refusal_text (put_told fault)) };
+    ghost output = { λ fault. Some (refusal_text (put_code fault)) };
 
     fn fmt<W: fmt::Write>(&self, f: &mut fmt::Formatter<W>) -> fmt::Result {
-        Told::of(self).fmt(f)
+        RefusalCode::of(self).fmt(f)
     }
 }
 

@@ -1,5 +1,5 @@
 use Rattle.std.proofs.Common.{refl}
-use Rattle.geometry.specs.Leaves.{least, fits, greatest}
+use Rattle.piles.specs.Leaves.{least, fits, greatest}
 use Rattle.checks.proofs.worked_numbers.Goals as goal
 
 pub returns : goal.returns

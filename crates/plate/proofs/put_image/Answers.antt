@@ -1,5 +1,5 @@
 use Rattle.std.proofs.Common.{◌≡◌, ◌+◌, get_or, ap, ◌∙◌, arith}
-use Rattle.march.specs.March.{fresh}
+use Rattle.march.specs.March.{new_pixel}
 use Rattle.words.specs.Words.{image_word, number_word}
 use Rattle.words.specs.Writing.{with_word}
 use Rattle.words.proofs.Written.{put_made}
@@ -11,7 +11,7 @@ pub word_of-requires : goal.word_of-requires
 word_of-requires c =
     let v = c.args.view in
     let ps = c.args.pixels.now in
-    sane_more v.far 4095 (get_or ps c.loop-k.k fresh) v.close (sane_at v.far ps c.loop-k.k c.requires.sound c.loop-k-test.true)
+    sane_more v.far 4095 (get_or ps c.loop-k.k new_pixel) v.far_in_range (sane_at v.far ps c.loop-k.k c.requires.sound c.loop-k-test.true)
 
 pub loop-k-preserved : goal.loop-k-preserved
 loop-k-preserved c =
@@ -23,8 +23,8 @@ loop-k-preserved c =
 pub returns : goal.returns
 returns c =
     let v = c.args.view in
-    let start : c.word-start.result ≡ image_word v.width v.height = omega (arith, c.word-start.ensures, v.wide, v.high) in
-    let far : c.word.result ≡ number_word v.far = omega (arith, c.word.ensures, v.close) in
+    let start : c.word-start.result ≡ image_word v.width v.height = omega (arith, c.word-start.ensures, v.width_in_range, v.height_in_range) in
+    let far : c.word.result ≡ number_word v.far = omega (arith, c.word.ensures, v.far_in_range) in
     put_all v c.args.pixels.now c.loop-k.out c.put.new.out c.put-2.new.out c.args.out.now c.loop-k.k
     c.loop-k-test.false c.loop-k.auto.k-end
     (put_made 0 c.word-start.result c.args.out.now c.put.new.out c.put.result c.unwrap.result c.put.ensures c.unwrap.ensures ∙ ap (λ w. with_word 0 w c.args.out.now) start)

@@ -1,7 +1,7 @@
 use Rattle.std.proofs.Common.{◌+◌, ◌-◌, sym, ap, ◌∙◌, arith}
 use Rattle.march.specs.View.{clear_along}
-use Rattle.march.specs.March.{sane, settled}
-use Rattle.march.proofs.Ray.{sane_after}
+use Rattle.march.specs.March.{is_sane, settle}
+use Rattle.march.proofs.RaySteps.{sane_after}
 use Rattle.plate_log.proofs.Onward.{step_on, stays_on, counted_spent}
 use Rattle.plate.proofs.settle.Goals as goal
 
@@ -11,8 +11,8 @@ loop-spent-preserved g c =
     let q = c.loop-spent.pixel in
     let clear = clear_along (g.S.Solid.body c.args.solid.now.solid.now) r in
     let held = c.loop-spent.invariant in (
-      ap (sane r.far) c.stepped.ensures ∙ sane_after clear r.far q held.0,
-      ap (settled clear r.far (c.args.budget - (c.loop-spent.spent + 1))) c.stepped.ensures
+      ap (is_sane r.far) c.stepped.ensures ∙ sane_after clear r.far q held.0,
+      ap (settle clear r.far (c.args.budget - (c.loop-spent.spent + 1))) c.stepped.ensures
           ∙ step_on clear r.far c.loop-spent.spent c.args.budget q _ held.1 (sym c.is_marching.ensures ∙ c.if-not-is_marching.false) held.0 c.loop-spent-test.true,
     )
 

@@ -1,9 +1,9 @@
 use Rattle.std.proofs.Common.{◌≡◌, ◌+◌, ◌-◌, ◌*◌, get_or, set, sym, refl, ap, ◌∙◌, arith, length-set}
 use Rattle.std.proofs.lemmas.Nat.{mul-le}
 use Rattle.march.specs.View.{clear_along}
-use Rattle.march.specs.March.{fresh, sane, settled}
-use Rattle.march.proofs.Ray.{sane_after}
-use Rattle.plate_log.specs.Log.{along_ray}
+use Rattle.march.specs.March.{new_pixel, is_sane, settle}
+use Rattle.march.proofs.RaySteps.{sane_after}
+use Rattle.plate_log.specs.Log.{clear_on_ray}
 use Rattle.plate_log.proofs.Sanity.{sane_at, sane_set}
 use Rattle.plate_log.proofs.Onward.{along_row, step_on, stays_on, spent_on, counted_spent, next, no_more, no_budget, ray_line, ray_far, ray_settled, row_ends, row_long, row_done, sane_row, sane_put}
 use Rattle.plate.proofs.sweep_all.Goals as goal
@@ -19,11 +19,11 @@ loop-pixel-init g c =
     let k = j * c.width-width.result in
     let n = k + c.width-width.result - k in
     let starts : k ≡ j * v.width = ap (λ w. j * w) c.width-width.ensures in
-    let x = get_or c.loop-i.pixel-items i fresh in
+    let x = get_or c.loop-i.pixel-items i new_pixel in
     let wide = row_long v j k n c.sweep.pixels (omega arith) (omega arith) starts (omega arith) in
     let r = c.unwrap-ray.result in
     let line = ray_line v i j (omega arith) (omega arith) c.ray_of.result c.ray_of.ensures r c.unwrap-ray.ensures in
-    (c.loop-i.invariant.0, ap (λ far. sane far x) (ray_far v i j r line) ∙ sane_at v.far c.loop-i.pixel-items i c.loop-i.invariant.1 (omega arith), refl)
+    (c.loop-i.invariant.0, ap (λ far. is_sane far x) (ray_far v i j r line) ∙ sane_at v.far c.loop-i.pixel-items i c.loop-i.invariant.1 (omega arith), refl)
 
 pub loop-pixel-preserved : goal.loop-pixel-preserved
 loop-pixel-preserved g c =
@@ -32,8 +32,8 @@ loop-pixel-preserved g c =
     let clear = clear_along (g.S.Solid.body c.args.solid.now.solid.now) r in
     let held = c.loop-pixel.invariant in (
       omega arith,
-      ap (sane r.far) c.stepped.ensures ∙ sane_after clear r.far q held.1,
-      ap (settled clear r.far (c.args.budget - (c.loop-pixel.spent + 1))) c.stepped.ensures
+      ap (is_sane r.far) c.stepped.ensures ∙ sane_after clear r.far q held.1,
+      ap (settle clear r.far (c.args.budget - (c.loop-pixel.spent + 1))) c.stepped.ensures
           ∙ step_on clear r.far c.loop-pixel.spent c.args.budget q _ held.2 (sym c.is_marching.ensures ∙ c.loop-pixel-test.true) held.1 (omega arith),
     )
 
@@ -53,9 +53,9 @@ loop-i-preserved g c =
     let wide = row_long v j k n c.sweep.pixels (omega arith) (omega arith) starts (omega arith) in
     let r = c.unwrap-ray.result in
     let line = ray_line v i j (omega arith) (omega arith) c.ray_of.result c.ray_of.ensures r c.unwrap-ray.ensures in
-    let done = stays_on (clear_along b r) r.far spent c.args.budget q _ c.loop-pixel.invariant.2 (sym c.is_marching.ensures ∙ c.loop-pixel-test.false) ∙ ray_settled v b i j left r (get_or xs i fresh) line in (
+    let done = stays_on (clear_along b r) r.far spent c.args.budget q _ c.loop-pixel.invariant.2 (sym c.is_marching.ensures ∙ c.loop-pixel-test.false) ∙ ray_settled v b i j left r (get_or xs i new_pixel) line in (
       c.loop-pixel.invariant.0,
-      sane_set v.far xs i q c.loop-i.invariant.1 (ap (λ far. sane far q) (sym (ray_far v i j r line)) ∙ c.loop-pixel.invariant.1),
+      sane_set v.far xs i q c.loop-i.invariant.1 (ap (λ far. is_sane far q) (sym (ray_far v i j r line)) ∙ c.loop-pixel.invariant.1),
       next (along_row v b j) v.far i left (c.args.budget - spent) xs q _ (omega arith) done c.loop-i.invariant.2,
     )
 
@@ -83,7 +83,7 @@ returns-after-sweep g c =
     let v = c.args.view in
     let b = g.S.Solid.body c.args.solid.now.solid.now in
     let spent = c.sweep.spent in
-    let done = no_more (along_ray v b) v.far (c.sweep.j * v.width) (c.args.budget - spent) c.sweep.pixels _ (omega (arith, mul-le v.height v.width c.sweep.j v.width (omega arith) (omega arith))) c.sweep.invariant.2 in
+    let done = no_more (clear_on_ray v b) v.far (c.sweep.j * v.width) (c.args.budget - spent) c.sweep.pixels _ (omega (arith, mul-le v.height v.width c.sweep.j v.width (omega arith) (omega arith))) c.sweep.invariant.2 in
     let o = counted_spent c.sweep.pixels spent c.args.budget _ c.sweep.invariant.0 done in
     record { value = o.0; spent = o.1; sound = c.sweep.invariant.1 }
 
@@ -105,15 +105,15 @@ returns-then-spent-budget g c =
     let ends = row_ends v j k n ps (omega arith) (omega arith) starts (omega arith) in
     let r = c.unwrap-ray.result in
     let line = ray_line v i j (omega arith) (omega arith) c.ray_of.result c.ray_of.ensures r c.unwrap-ray.ensures in
-    let pixel = spent_on (clear_along b r) r.far spent c.args.budget q _ c.loop-pixel.invariant.2 c.if-spent-budget.true ∙ ray_settled v b i j (c.args.budget - c.loop-i.spent) r (get_or xs i fresh) line in
+    let pixel = spent_on (clear_along b r) r.far spent c.args.budget q _ c.loop-pixel.invariant.2 c.if-spent-budget.true ∙ ray_settled v b i j (c.args.budget - c.loop-i.spent) r (get_or xs i new_pixel) line in
     let row = no_budget (along_row v b j) v.far (i + 1) left (set xs i q) _ (omega arith)
     (next (along_row v b j) v.far i (c.args.budget - c.loop-i.spent) left xs q _ (omega arith) pixel c.loop-i.invariant.2) in
-    let done = no_budget (along_ray v b) v.far ((j + 1) * v.width) left _ _ (omega arith)
+    let done = no_budget (clear_on_ray v b) v.far ((j + 1) * v.width) left _ _ (omega arith)
     (row_done v j k n ps (omega arith) (omega arith) starts (omega arith) b (c.args.budget - c.sweep.spent) left (set xs i q) _ row c.sweep.invariant.2) in
     let o = counted_spent _ spent c.args.budget _ c.loop-pixel.invariant.0 done in
     record {
       value = o.0;
       spent = o.1;
       sound = sane_put v.far k n ps (set xs i q) ends (omega (arith, length-set xs i q)) c.sweep.invariant.1
-          (sane_set v.far xs i q c.loop-i.invariant.1 (ap (λ far. sane far q) (sym (ray_far v i j r line)) ∙ c.loop-pixel.invariant.1));
+          (sane_set v.far xs i q c.loop-i.invariant.1 (ap (λ far. is_sane far q) (sym (ray_far v i j r line)) ∙ c.loop-pixel.invariant.1));
     }

@@ -2,10 +2,10 @@
 //! in this order: room for the node, the nodes that it takes, whether one to be thickened is
 //! exact, its numbers one by one, and last a box's corners or the reach that a shift must not pass.
 ghost use Rattle.std.specs.Prelude.{◌≡◌, ◌+◌, ◌<◌, ◌≤◌, true, List, [], ◌∷◌, map, length, drop};
-ghost use Rattle.geometry.specs.Layers.{unite, meet};
-ghost use Rattle.scene.specs.Standing.{joined, step, fits, summed, last_exact};
+ghost use Rattle.piles.specs.Layers.{unite, meet};
+ghost use Rattle.scene.specs.Standing.{join_of, with_node, can_take, summary_of, last_is_exact};
 ghost use Rattle.scene.specs.Laid.{ball_on, box_on, two_on, shift_on, thicken_on};
-ghost use Rattle.scene.specs.Known.{last_of, last_two, only};
+ghost use Rattle.scene.specs.Known.{last_summary, last_two_summaries, only_summary};
 ghost use Rattle.scene.specs.States.{state, room, lay};
 
 use super::{Draft, DraftFault};
@@ -14,8 +14,7 @@ use crate::stack::Stack;
 use crate::table::{MOST_NODES, Table};
 use lattice::Point;
 use layers::{check_offset, check_thickness};
-use leaves::axis_box::AxisBox;
-use leaves::ball::Ball;
+use leaves::{AxisBox, Ball};
 
 /// What fills the room in which no body is summed up.
 const BLANK: Summary = Summary {
@@ -50,7 +49,7 @@ impl Draft {
 
     /// Does a node stand, and is the last that does exact?
     pub fn last_is_exact(&self) -> bool
-        ensures { result ≡ last_exact (state self.now).1 }
+        ensures { result ≡ last_is_exact (state self.now).1 }
     {
         self.last().is_ok_and(|last| last.exact)
     }
@@ -67,7 +66,7 @@ impl Draft {
 
     /// The last that stands.
     fn last(&self) -> Result<Summary, DraftFault>
-        ensures { result ≡ last_of (state self.now).1 }
+        ensures { result ≡ last_summary (state self.now).1 }
     {
         let [.., last] = self.summaries.as_slice() else {
             return Err(DraftFault::TooFew);
@@ -77,7 +76,7 @@ impl Draft {
 
     /// The last two that stand, first the one that was laid down earlier.
     fn last_two(&self) -> Result<(Summary, Summary), DraftFault>
-        ensures { result ≡ last_two (state self.now).1 }
+        ensures { result ≡ last_two_summaries (state self.now).1 }
     {
         let [.., left, right] = self.summaries.as_slice() else {
             return Err(DraftFault::TooFew);
@@ -87,7 +86,7 @@ impl Draft {
 
     /// The one node that stands.
     pub(crate) fn only(&self) -> Result<Summary, DraftFault>
-        ensures { result ≡ only (state self.now).1 }
+        ensures { result ≡ only_summary (state self.now).1 }
     {
         let [one] = self.summaries.as_slice() else {
             return Err(DraftFault::Unfinished);
@@ -98,10 +97,10 @@ impl Draft {
     /// Lays down a node that takes so many, and of which this is the summary.
     fn put(&mut self, node: Node, taken: usize, summary: Summary)
         requires room { (state self.old).0 < 256 }
-        requires fit { fits node (state self.old).1 ≡ true }
+        requires fit { can_take node (state self.old).1 ≡ true }
         requires enough { taken ≤ length (state self.old).1 }
-        requires right { map summed (step node (state self.old).1) ≡ summary ∷ map summed (drop taken (state self.old).1) }
-        ensures { state self.new ≡ ((state self.old).0 + 1, step node (state self.old).1) }
+        requires right { map summary_of (with_node node (state self.old).1) ≡ summary ∷ map summary_of (drop taken (state self.old).1) }
+        ensures { state self.new ≡ ((state self.old).0 + 1, with_node node (state self.old).1) }
     {
         self.summaries.take_off(taken);
         self.summaries.push(summary);
@@ -144,7 +143,7 @@ impl Draft {
 
     /// Joins the last two that stand.
     fn join(&mut self, join: Join) -> Result<(), DraftFault>
-        ensures { (result, state self.new) ≡ lay (two_on (joined join)) (state self.old) }
+        ensures { (result, state self.new) ≡ lay (two_on (join_of join)) (state self.old) }
     {
         self.check_room()?;
         let (left, right) = self.last_two()?;

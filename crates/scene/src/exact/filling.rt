@@ -1,6 +1,6 @@
 //! An exact scene is filled from a scene, and answers as an exact solid.
 ghost use Rattle.std.specs.Prelude.{◌≡◌, OnErr};
-ghost use Rattle.geometry.specs.Leaves.{ball};
+ghost use Rattle.piles.specs.Leaves.{ball};
 ghost use Rattle.scene.specs.Standing.{origin};
 ghost use Rattle.scene.specs.Scenes.{scene_body, scene_lawful};
 ghost use Rattle.scene.specs.Exacts.{exact_scene_body, filled_exact};

@@ -2,16 +2,15 @@
 ghost use Rattle.std.specs.Prelude.{◌≡◌, ◌*◌, length, ◌==◌};
 ghost use Rattle.words.specs.Kinds.{kind_number};
 ghost use Rattle.std.specs.Result.{result_map_both};
-ghost use Rattle.words.specs.Reading.{held, halves, word_at, kind_at, rest_at, bare_at, number_at, number_in, row_at, point_at};
+ghost use Rattle.words.specs.Reading.{answer_with, halves, word_at, kind_at, rest_at, bare_at, number_at, number_in, row_at, point_at};
 ghost use Rattle.words.specs.Encoding.{NumbersReadBack};
-ghost use Rattle.words.specs.Cursor.{text, place, ahead, Moved};
+ghost use Rattle.words.specs.Cursor.{text, place, bytes_left, Moved};
 
 use super::Reader;
-use crate::fault::{WordFault, tell};
+use crate::fault::{WordFault, place_as_u32};
 use crate::kind::{Kind, WORDS};
 use crate::writing::WORD;
-use lattice::Point;
-use lattice::direction::Direction;
+use lattice::{Direction, Point};
 
 // A word that may still be refused once it is read is read by a copy of the reader, so that a refused
 // one leaves the reader where it was.
@@ -26,7 +25,7 @@ impl<'a> Reader<'a> {
 
     /// Begins the next part at the word that is due.
     pub fn next_part(&mut self)
-        ensures text { text self.new ≡ ahead self.old }
+        ensures text { text self.new ≡ bytes_left self.old }
         ensures place { place self.new ≡ 0 }
     {
         self.bytes = &self.bytes[WORD * self.at..];
@@ -42,7 +41,7 @@ impl<'a> Reader<'a> {
 
     /// Is no byte left?
     pub fn at_end(&self) -> bool
-        ensures { result ≡ (length (ahead self.now) == 0) }
+        ensures { result ≡ (length (bytes_left self.now) == 0) }
     {
         self.bytes.len() == WORD * self.at
     }
@@ -110,7 +109,7 @@ impl<'a> Reader<'a> {
 
     /// The word that is due, of this kind, whose other bits all are unnamed.
     pub fn bare_of(&mut self, kind: Kind) -> Result<(), WordFault>
-        ensures value { result ≡ held (bare_at (text self.old) (place self.old) (kind_number kind) (kind_number kind)) tt }
+        ensures value { result ≡ answer_with (bare_at (text self.old) (place self.old) (kind_number kind) (kind_number kind)) tt }
         ensures moved { Moved result 1 self.old self.new }
     {
         let own = kind.number();
@@ -157,7 +156,7 @@ impl<'a> Reader<'a> {
     {
         let mut ahead = *self;
         let n = i32::from(ahead.number()?);
-        if Direction::of_row(n, tell(self.at)).is_err() {
+        if Direction::of_row(n, place_as_u32(self.at)).is_err() {
             return Err(WordFault::Row { place: self.at });
         }
         *self = ahead;

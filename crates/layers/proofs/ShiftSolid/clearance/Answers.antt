@@ -1,6 +1,6 @@
 use Rattle.std.proofs.Common.{◌∙◌}
 use Rattle.solid.proofs.Asked.{up_to_most}
-use Rattle.geometry.proofs.Kept.{shift_lawful}
+use Rattle.piles.proofs.Kept.{shift_lawful}
 use Rattle.layers.proofs.ShiftSolid.clearance.Goals as goal
 
 pub returns : goal.returns

@@ -1,5 +1,5 @@
 use Rattle.std.proofs.Common.{rules}
-use Rattle.geometry.proofs.Near.{near_decides}
+use Rattle.piles.proofs.Near.{near_decides}
 use Rattle.layers.proofs.Piled.{thickens_piles}
 use Rattle.layers.proofs.Thicken.new.Goals as goal
 

@@ -1,7 +1,7 @@
 use Rattle.std.proofs.Common.{◌≡◌, ◌-ℤ◌, rules}
 use Rattle.std.specs.Int.{int_max}
 use Rattle.std.proofs.lemmas.Int.{to_z-of_z}
-use Rattle.geometry.proofs.Bounds.{block_clear}
+use Rattle.piles.proofs.Bounds.{block_clear}
 use Rattle.leaves.proofs.LeafPoint.off_block.Goals as goal
 
 pub returns : goal.returns

@@ -1,6 +1,6 @@
 use Rattle.std.proofs.Common.{◌≡◌, ◌*◌, take, replicate, refl, sym, ap, ◌∙◌}
 use Rattle.march.specs.Checks.{PlainView}
-use Rattle.march.specs.March.{fresh}
+use Rattle.march.specs.March.{new_pixel}
 use Rattle.plate_log.specs.Log.{area}
 use Rattle.plate_log.proofs.Worked.{worked}
 use Rattle.plate.proofs.Plate.new.Goals as goal
@@ -10,7 +10,7 @@ returns c =
     let none : area c.blank.result ≡ 0 = ap (λ (v : PlainView). v.width * v.height) c.blank.ensures in
     record {
       value = (refl, c.blank.ensures);
-      empty = ap (λ n. take n c.args.records.now) none ∙ sym (ap (λ n. replicate n fresh) none);
+      empty = ap (λ n. take n c.args.records.now) none ∙ sym (ap (λ n. replicate n new_pixel) none);
       lender = refl;
       worked = worked;
     }

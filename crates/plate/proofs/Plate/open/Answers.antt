@@ -1,5 +1,5 @@
 use Rattle.std.proofs.Common.{◌++◌, drop, replicate, ap, ◌∙◌, length-take-le, arith}
-use Rattle.march.specs.March.{fresh}
+use Rattle.march.specs.March.{new_pixel}
 use Rattle.plate_log.specs.Log.{area}
 use Rattle.plate_log.proofs.Upshot.{whole}
 use Rattle.plate_log.proofs.Calls.{new_room, new_sound}
@@ -17,7 +17,7 @@ invariant_of-self c =
     let n = c.pixels-n.result in
     let rs = c.args.self.now.records.now in
     let now = c.renew.new.pixels ++ drop n rs in
-    let is = ap (λ ps. ps ++ drop n rs) (c.renew.ensures ∙ ap (λ k. replicate k fresh) (length-take-le n rs (omega arith))) ∙ ap (λ k. replicate k fresh ++ drop k rs) c.pixels-n.ensures in
+    let is = ap (λ ps. ps ++ drop n rs) (c.renew.ensures ∙ ap (λ k. replicate k new_pixel) (length-take-le n rs (omega arith))) ∙ ap (λ k. replicate k new_pixel ++ drop k rs) c.pixels-n.ensures in
     record { room = new_room (area v) now rs (omega (arith, c.pixels-n.ensures)) is; sound = new_sound v.far (area v) now rs is }
 
 pub returns-clause-whole : goal.returns-clause-whole

@@ -1,13 +1,13 @@
 use Rattle.std.proofs.Common.{Ok, refl, arith}
 use Rattle.std.proofs.lemmas.Grind.{common_steps}
-use Rattle.plate_log.specs.Log.{reading, state_of}
+use Rattle.plate_log.specs.Log.{reading, read_answer}
 use Rattle.plate_log.proofs.Calls.{promise, placed, read_done}
 use Rattle.plate.proofs.Plate.read.Goals as goal
 
 pub returns-in_err-place-clause-promise : goal.returns-in_err-place-clause-promise
 returns-in_err-place-clause-promise c =
     let p = c.args.self.now in
-    promise p.view p.records.now p.records.now (reading c.args.i c.args.j) (state_of c.from_residual.result) p.room (grind (arith, common_steps))
+    promise p.view p.records.now p.records.now (reading c.args.i c.args.j) (read_answer c.from_residual.result) p.room (grind (arith, common_steps))
 
 pub bounds-self-place : goal.bounds-self-place
 bounds-self-place c =

@@ -1,14 +1,14 @@
 use Rattle.std.proofs.Common.{◌≡◌, ◌++◌, drop, refl, ap, ◌∙◌, arith}
 use Rattle.std.proofs.lemmas.Grind.{common_steps}
 use Rattle.solid.specs.Body.{Body}
-use Rattle.plate_log.specs.Log.{sweeping, done, counts_of}
+use Rattle.plate_log.specs.Log.{sweeping, line_on_records, sweep_answer}
 use Rattle.plate_log.proofs.Calls.{promise, sweep_done, long_swept, front_room, front_sound}
 use Rattle.plate.proofs.Plate.sweep.Goals as goal
 
 pub returns-in_err-deep-clause-promise : goal.returns-in_err-deep-clause-promise
 returns-in_err-deep-clause-promise g c =
     let p = c.args.self.now in
-    promise p.view p.records.now p.records.now (sweeping (g.S.Solid.body c.args.solid.now) c.args.budget) (counts_of c.from_residual.result) p.room (grind (arith, common_steps))
+    promise p.view p.records.now p.records.now (sweeping (g.S.Solid.body c.args.solid.now) c.args.budget) (sweep_answer c.from_residual.result) p.room (grind (arith, common_steps))
 
 pub invariant_of-self : goal.invariant_of-self
 invariant_of-self g c =
@@ -31,5 +31,5 @@ returns g c =
     let n = c.pixels.result in
     let ps = c.sweep_all-spent.new.pixels in
     let l = sweep_done v rs ps b c.args.budget n c.pixels.ensures c.sweep_all-spent.ensures.value c.sweep_all-spent.result c.count_marching-left.result deep.far_enough c.sweep_all-spent.ensures.spent c.count_marching-left.ensures
-    ∙ ap (λ (b : Body). done v rs (sweeping b c.args.budget)) same in
+    ∙ ap (λ (b : Body). line_on_records v rs (sweeping b c.args.budget)) same in
     record { line = l; promise = promise v rs (ps ++ drop n rs) (sweeping (g.S.Solid.body c.args.solid.now) c.args.budget) _ p.room l; view = refl; lender = refl }

@@ -2,8 +2,8 @@ use Rattle.std.proofs.Common.{◌≡◌, ◌-◌, cond, length-set, get_or, set,
 use mir.Val.{bool_byte}
 use Rattle.std.proofs.lemmas.Grind.{common_steps}
 use Rattle.solid.specs.Body.{Body}
-use Rattle.march.specs.March.{fresh, sane, marches}
-use Rattle.plate_log.specs.Log.{area, touching, done, counts_of}
+use Rattle.march.specs.March.{new_pixel, is_sane, marches}
+use Rattle.plate_log.specs.Log.{area, touching, line_on_records, sweep_answer}
 use Rattle.plate_log.proofs.Sanity.{sound_at, sound_set}
 use Rattle.plate_log.proofs.Onward.{ray_line, ray_far, ray_settled}
 use Rattle.plate_log.proofs.Calls.{promise, placed, touch_done, one_where}
@@ -12,7 +12,7 @@ use Rattle.plate.proofs.Plate.touch.Goals as goal
 pub returns-in_err-ray-clause-promise : goal.returns-in_err-ray-clause-promise
 returns-in_err-ray-clause-promise g c =
     let p = c.args.self.now in
-    promise p.view p.records.now p.records.now (touching c.args.i c.args.j (g.S.Solid.body c.args.solid.now) c.args.budget) (counts_of c.from_residual.result) p.room (grind (arith, common_steps))
+    promise p.view p.records.now p.records.now (touching c.args.i c.args.j (g.S.Solid.body c.args.solid.now) c.args.budget) (sweep_answer c.from_residual.result) p.room (grind (arith, common_steps))
 
 pub bounds-records-place : goal.bounds-records-place
 bounds-records-place g c =
@@ -28,7 +28,7 @@ settle-spent-requires g c =
     let r = c.in_ok-ray.ray in
     let at = placed v c.args.i c.args.j k c.place_of.result c.place_of.ensures c.unwrap-place.ensures in
     let line = ray_line v c.args.i c.args.j at.within.0 at.within.1 (Ok r) c.in_ok-ray.ensures r refl in
-    record { sound = ap (λ far. sane far (get_or p.records.now k fresh)) (ray_far v c.args.i c.args.j r line) ∙ sound_at v.far (area v) k p.records.now p.sound at.inside p.room }
+    record { sound = ap (λ far. is_sane far (get_or p.records.now k new_pixel)) (ray_far v c.args.i c.args.j r line) ∙ sound_at v.far (area v) k p.records.now p.sound at.inside p.room }
 
 pub invariant_of-self : goal.invariant_of-self
 invariant_of-self g c =
@@ -39,7 +39,7 @@ invariant_of-self g c =
     let q = c.settle-spent.new.pixel in
     let at = placed v c.args.i c.args.j k c.place_of.result c.place_of.ensures c.unwrap-place.ensures in
     let line = ray_line v c.args.i c.args.j at.within.0 at.within.1 (Ok r) c.in_ok-ray.ensures r refl in
-    let sound = ap (λ far. sane far q) (sym (ray_far v c.args.i c.args.j r line)) ∙ c.settle-spent.ensures.sound in
+    let sound = ap (λ far. is_sane far q) (sym (ray_far v c.args.i c.args.j r line)) ∙ c.settle-spent.ensures.sound in
     record { room = omega (arith, length-set p.records.now k q, p.room); sound = sound_set v.far (area v) k p.records.now q p.sound at.inside sound }
 
 pub returns : goal.returns
@@ -57,14 +57,14 @@ returns g c =
     let q = c.settle-spent.new.pixel in
     let at = placed v i j k c.place_of.result c.place_of.ensures c.unwrap-place.ensures in
     let line = ray_line v i j at.within.0 at.within.1 (Ok r) c.in_ok-ray.ensures r refl in
-    let is = ray_settled v b i j c.args.budget r (get_or rs k fresh) line in
+    let is = ray_settled v b i j c.args.budget r (get_or rs k new_pixel) line in
     let left : c.from.result ≡ cond (marches q) 1 0 = c.from.ensures ∙ ap bool_byte c.is_marching.ensures ∙ one_where (marches q) in
     let l = touch_done v rs q i j k b c.args.budget c.settle-spent.result c.from.result p.room at deep.far_enough
     (c.settle-spent.ensures.value ∙ ap (λ s. s.0) is) (c.settle-spent.ensures.spent ∙ ap (λ s. c.args.budget - s.1) is) left
-    ∙ ap (λ (b : Body). done v rs (touching i j b c.args.budget)) same in
+    ∙ ap (λ (b : Body). line_on_records v rs (touching i j b c.args.budget)) same in
     record { line = l; promise = promise v rs (set rs k q) (touching i j (g.S.Solid.body c.args.solid.now) c.args.budget) _ p.room l; view = refl; lender = refl }
 
 pub returns-in_err-deep-clause-promise : goal.returns-in_err-deep-clause-promise
 returns-in_err-deep-clause-promise g c =
     let p = c.args.self.now in
-    promise p.view p.records.now p.records.now (touching c.args.i c.args.j (g.S.Solid.body c.args.solid.now) c.args.budget) (counts_of c.from_residual-in_err-deep.result) p.room (grind (arith, common_steps))
+    promise p.view p.records.now p.records.now (touching c.args.i c.args.j (g.S.Solid.body c.args.solid.now) c.args.budget) (sweep_answer c.from_residual-in_err-deep.result) p.room (grind (arith, common_steps))

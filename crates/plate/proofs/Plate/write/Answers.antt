@@ -1,5 +1,5 @@
 use Rattle.std.proofs.Common.{length, take, ap, ◌∙◌, arith, length-take}
-use Rattle.plate_log.specs.Sweep.{all_sane}
+use Rattle.plate_log.specs.Sweep.{are_sane}
 use Rattle.plate_log.specs.Log.{writing}
 use Rattle.plate_log.proofs.Calls.{promise, small, write_early, write_tight, write_done}
 use Rattle.plate.proofs.Plate.write.Goals as goal
@@ -27,7 +27,7 @@ put_image-requires c =
     let rs = p.records.now in
     record {
       room = (omega (arith, length-take c.pixels.result rs, small p.view, c.pixels.ensures), c.if-out-size.false);
-      sound = ap (λ n. all_sane p.view.far (take n rs)) c.pixels.ensures ∙ p.sound;
+      sound = ap (λ n. are_sane p.view.far (take n rs)) c.pixels.ensures ∙ p.sound;
     }
 
 pub returns : goal.returns

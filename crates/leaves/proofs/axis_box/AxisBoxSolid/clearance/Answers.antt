@@ -1,8 +1,8 @@
 use Rattle.std.proofs.Common.{◌∙◌}
 use Rattle.lattice.proofs.Distance.{placement_in}
 use Rattle.solid.proofs.Asked.{up_to_most}
-use Rattle.geometry.specs.Leaves.{block}
-use Rattle.geometry.proofs.Boxes.{block_lawful}
+use Rattle.piles.specs.Leaves.{block}
+use Rattle.piles.proofs.Boxes.{block_lawful}
 use Rattle.leaves.proofs.axis_box.AxisBoxSolid.clearance.Goals as goal
 
 pub returns : goal.returns

@@ -1,5 +1,5 @@
 use Rattle.std.proofs.Common.{min, ap, ◌∙◌, arith}
-use Rattle.geometry.proofs.Bounds.{ball_clear, ball_at_least}
+use Rattle.piles.proofs.Bounds.{ball_clear, ball_at_least}
 use Rattle.leaves.proofs.ball.Ball.clear_up_to.Goals as goal
 
 pub returns-then-saturating_sub-most : goal.returns-then-saturating_sub-most

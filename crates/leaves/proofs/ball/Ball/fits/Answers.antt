@@ -1,4 +1,4 @@
-use Rattle.geometry.specs.Leaves.{fits}
+use Rattle.piles.specs.Leaves.{fits}
 use Rattle.leaves.proofs.ball.Ball.fits.Goals as goal
 
 pub returns : goal.returns

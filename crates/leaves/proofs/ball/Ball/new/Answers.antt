@@ -1,6 +1,6 @@
 use Rattle.std.proofs.Common.{rules}
 use Rattle.std.proofs.lemmas.Int.{to_z-of_z}
-use Rattle.geometry.proofs.Balls.{smallest_stands}
+use Rattle.piles.proofs.Balls.{smallest_stands}
 use Rattle.leaves.specs.Made.{point_ranged, ranged}
 use Rattle.leaves.proofs.ball.Ball.new.Goals as goal
 

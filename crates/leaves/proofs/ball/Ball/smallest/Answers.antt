@@ -1,7 +1,7 @@
 use Rattle.std.proofs.Common.{◌≡◌, ℕ, ◌+◌, ◌-◌, ◌/◌, ◌<◌, max, true, false, sym, ap, ◌∙◌, arith}
-use Rattle.geometry.specs.Leaves.{fits, least}
-use Rattle.geometry.proofs.Least.{least_is, fails_below}
-use Rattle.geometry.proofs.Balls.{fits_last, fits_more, fits_far, fits_half}
+use Rattle.piles.specs.Leaves.{fits, least}
+use Rattle.piles.proofs.Least.{least_is, fails_below}
+use Rattle.piles.proofs.Balls.{fits_last, fits_more, fits_far, fits_half}
 use Rattle.leaves.proofs.ball.Ball.smallest.Goals as goal
 
 -- the first that fits, of numbers of which the last does

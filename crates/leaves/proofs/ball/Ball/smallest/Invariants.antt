@@ -1,5 +1,5 @@
 use Rattle.std.proofs.Common.{◌≡◌, ℕ, ◌-◌, ◌<◌, ◌≤◌, true, false}
-use Rattle.geometry.specs.Leaves.{fits}
+use Rattle.piles.specs.Leaves.{fits}
 use Rattle.leaves.proofs.ball.Ball.smallest.Given as goal
 
 -- high fits and nothing below low does

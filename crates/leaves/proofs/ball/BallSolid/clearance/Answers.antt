@@ -1,8 +1,8 @@
 use Rattle.std.proofs.Common.{◌∙◌}
 use Rattle.lattice.proofs.Distance.{placement_in}
 use Rattle.solid.proofs.Asked.{up_to_most}
-use Rattle.geometry.specs.Leaves.{ball}
-use Rattle.geometry.proofs.Balls.{ball_lawful}
+use Rattle.piles.specs.Leaves.{ball}
+use Rattle.piles.proofs.Balls.{ball_lawful}
 use Rattle.leaves.proofs.ball.BallSolid.clearance.Goals as goal
 
 pub returns : goal.returns

@@ -1,6 +1,6 @@
 use Rattle.std.proofs.Common.{◌≡◌, ◌*◌, ap, ◌∙◌, refl, add-one, arith, rules}
 use Rattle.std.proofs.lemmas.Int.{to_z-of_z}
-use Rattle.geometry.specs.Leaves.{greatest}
+use Rattle.piles.specs.Leaves.{greatest}
 use Rattle.leaves.proofs.surface.Sheet.greatest.Goals as goal
 
 pub loop-height-init : goal.loop-height-init

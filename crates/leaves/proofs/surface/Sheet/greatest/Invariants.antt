@@ -1,5 +1,5 @@
 use Rattle.std.proofs.Common.{◌≡◌}
-use Rattle.geometry.specs.Leaves.{greatest}
+use Rattle.piles.specs.Leaves.{greatest}
 use Rattle.leaves.proofs.surface.Sheet.greatest.Given as goal
 
 abbrev pub invariant-loop-height : goal.invariant-loop-height

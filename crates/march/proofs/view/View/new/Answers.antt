@@ -1,5 +1,5 @@
 use Rattle.std.proofs.Common.{rules}
-use Rattle.march.specs.Checks.{way}
+use Rattle.lattice.specs.Rows.{way}
 use Rattle.march.proofs.Numbers.{origin_near, sizes_small, view_made, sizes_refused}
 use Rattle.march.proofs.view.View.new.Goals as goal
 
@@ -15,7 +15,7 @@ invariant_of-result c =
     let o = origin_near n c.in_ok-origin.origin c.in_ok-origin.ensures in
     let s = c.in_ok-width in
     let z = sizes_small n (s.width, s.height, s.far) s.ensures in
-    record { left = o.0; low = o.1; near = o.2; wide = z.0; high = z.1; close = z.2 }
+    record { x_in_range = o.0; y_in_range = o.1; z_in_range = o.2; width_in_range = z.0; height_in_range = z.1; far_in_range = z.2 }
 
 pub returns : goal.returns
 returns c =

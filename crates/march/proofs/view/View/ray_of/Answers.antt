@@ -8,4 +8,4 @@ pub invariant_of-result : goal.invariant_of-result
 invariant_of-result c =
     let v = c.args.self.now in
     let p = subst⁻¹ (In 16510) c.start_of.ensures (start_in v c.args.i c.args.j (grind arith) (grind arith)) in
-    record { left = p.0; low = p.1; near = p.2; close = v.close }
+    record { x_in_range = p.0; y_in_range = p.1; z_in_range = p.2; far_in_range = v.far_in_range }

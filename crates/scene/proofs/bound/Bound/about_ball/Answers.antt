@@ -1,7 +1,7 @@
 use Rattle.std.proofs.Common.{◌≡◌, ℕ, ◌≤◌, ℤ, pos, ◌+ℤ◌, ◌-ℤ◌, nat_abs, w32, to_z, of_z, arith}
 use Rattle.std.proofs.lemmas.Int.{ints}
 use Rattle.lattice.proofs.Distance.{placement_in}
-use Rattle.geometry.proofs.Bounds.{ball_no_nearer}
+use Rattle.piles.proofs.Bounds.{ball_no_nearer}
 use Rattle.scene.proofs.bound.Bound.about_ball.Goals as goal
 
 -- a corner, as the code computes it in 32 bits

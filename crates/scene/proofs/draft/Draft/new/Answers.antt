@@ -1,11 +1,11 @@
 use Rattle.std.proofs.Common.{arith}
-use Rattle.scene.specs.Standing.{gathered}
+use Rattle.scene.specs.Standing.{gather}
 use Rattle.scene.proofs.draft.Draft.new.Goals as goal
 
 pub invariant_of-result : goal.invariant_of-result
-unfolding gathered
+unfolding gather
 invariant_of-result c = record { fewer = omega arith; tally = simp (c.new.ensures, c.new-2.ensures) }
 
 pub returns : goal.returns
-unfolding gathered
+unfolding gather
 returns c = simp (c.new.ensures)

@@ -1,7 +1,7 @@
 use Rattle.std.proofs.Common.{◌<◌, ◌≢◌, length, sym, ◌∙◌, ap₂, subst, arith, get_or-set_other, get_or-set_same, below_more}
 use Rattle.scene.specs.declared.node.Join.TheVariants.{Unite}
 use Rattle.scene.specs.declared.node.Node.TheVariants.{Joined}
-use Rattle.scene.specs.Standing.{step, fits, IsStart}
+use Rattle.scene.specs.Standing.{with_node, can_take, IsStart}
 use Rattle.scene.proofs.Gathers.{gathered_kept, gathered_push}
 use Rattle.scene.proofs.Starts.{start_kept, start_pushed}
 use Rattle.scene.proofs.table.Table.push.Goals as goal
@@ -18,8 +18,8 @@ invariant_of-self c =
     rw (c.push.ensures.put, c.push.ensures.counted) (record {
       room = omega arith;
       sound = below_more _ n
-          (λ k h. let ne : k ≢ n = omega arith in ap₂ fits (get_or-set_other ns n k x (Joined Unite) ne) (gathered_kept step _ (Joined Unite) ns n x k (omega arith)) ∙ t.sound k h)
-          (ap₂ fits (get_or-set_same ns n x (Joined Unite) l) (gathered_kept step _ (Joined Unite) ns n x n (omega arith)) ∙ c.requires.fit);
+          (λ k h. let ne : k ≢ n = omega arith in ap₂ can_take (get_or-set_other ns n k x (Joined Unite) ne) (gathered_kept with_node _ (Joined Unite) ns n x k (omega arith)) ∙ t.sound k h)
+          (ap₂ can_take (get_or-set_same ns n x (Joined Unite) l) (gathered_kept with_node _ (Joined Unite) ns n x n (omega arith)) ∙ c.requires.fit);
       started = below_more _ n
           (λ k h. let ne : k ≢ n = omega arith in subst (IsStart _ k) (sym (get_or-set_other t.starts n k b 0 ne)) (start_kept ns n x k _ h (t.started k h)))
           (subst (IsStart _ n) (sym (get_or-set_same t.starts n b 0 m)) (start_pushed ns n x b l c.start_with.ensures.earlier c.start_with.ensures.before));
@@ -30,4 +30,4 @@ returns c =
     let ns = c.args.self.now.nodes.items in
     let n = c.args.self.now.nodes.height in
     let l : n < length ns = omega arith in
-    record { counted = c.push.ensures.counted; made = rw (c.push.ensures.put, c.push.ensures.counted) (gathered_push step _ (Joined Unite) ns n c.args.node l) }
+    record { counted = c.push.ensures.counted; made = rw (c.push.ensures.put, c.push.ensures.counted) (gathered_push with_node _ (Joined Unite) ns n c.args.node l) }

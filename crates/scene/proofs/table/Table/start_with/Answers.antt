@@ -1,5 +1,5 @@
 use Rattle.std.proofs.Common.{inl, inr, ap, ◌∙◌}
-use Rattle.scene.specs.Standing.{some}
+use Rattle.scene.specs.Standing.{has_one}
 use Rattle.scene.proofs.Stacks.{some_laid, two_some, shift_fit, thicken_fit}
 use Rattle.scene.proofs.table.Table.start_with.Goals as goal
 
@@ -19,4 +19,4 @@ start_of-requires-clause-some c =
 pub start_of-requires-in-Joined-clause-some : goal.start_of-requires-in-Joined-clause-some
 start_of-requires-in-Joined-clause-some c =
     let s = c.args.self.now.nodes in
-    some_laid s.items c.start_of.result (ap some c.start_of.ensures.before ∙ rw c.in-Joined.is at c.requires)
+    some_laid s.items c.start_of.result (ap has_one c.start_of.ensures.before ∙ rw c.in-Joined.is at c.requires)

@@ -1,6 +1,0 @@
-pub mod Told
-pub mod Models
-pub mod Render
-pub mod Laws
-pub mod Steps
-pub mod Loans

@@ -1,8 +1,0 @@
--- The number and the place of a layer that was refused.
-use Rattle.std.specs.Prelude.{ℕ}
-use Rattle.layers.specs.declared.LayerFault.{LayerFault}
-use Rattle.layers.specs.declared.LayerFault.TheVariants.{Range, PastReach}
-
-abbrev pub layer_told : LayerFault → ℕ × ℕ
-layer_told (Range place) = (4, place)
-layer_told PastReach = (11, 0)

@@ -1,7 +1,0 @@
--- The number and the place of a refused question.
-use Rattle.std.specs.Prelude.{ℕ}
-use Rattle.solid.specs.declared.QuestionFault.{QuestionFault}
-use Rattle.solid.specs.declared.QuestionFault.TheVariants.{BeyondReach}
-
-abbrev pub question_told : QuestionFault → ℕ × ℕ
-question_told BeyondReach = (17, 0)
