@@ -9,15 +9,17 @@ use Rattle.march.specs.declared.pixel.Pixel.{Pixel}
 use Rattle.march.specs.declared.view.View.{View}
 use Rattle.march.specs.declared.fault.ViewFault.{ViewFault}
 use Rattle.march.specs.declared.view.ViewNumbers.{ViewNumbers}
+use Rattle.march.specs.Deep.{is_deep}
 use Rattle.march.specs.Checks.{PlainView, plain_view, view_answer}
 use Rattle.march.specs.March.{new_pixel}
 use Rattle.plate_log.specs.declared.fault.PlateFault.{PlateFault}
 use Rattle.plate_log.specs.declared.fault.PlateFault.TheVariants.{Shallow}
-use Rattle.plate_log.specs.Opening.{Opened, opened_by, opening}
-use Rattle.plate_log.specs.Log.{Call, Answer, sweeping, counted, refused, line_of, line_on_records, new_pixels, pixels_after, area, is_deep}
-use Rattle.plate_log.proofs.Lift.{play_more}
+use Rattle.plate_log.specs.Opening.{OpenOutcome, open_outcome, opening}
+use Rattle.plate_log.specs.Log.{Call, Answer, sweeping, counted, refused, line_of, new_pixels, pixels_after, area}
+use Rattle.plate_log.specs.Records.{line_on_records}
+use Rattle.plate_log.proofs.Lift.{log_from_more}
 use Rattle.plate_log.proofs.Sums.{log_length}
-use Rattle.checks.specs.Chained.{opens, sweeps, sweeps_called, RecordsAfter}
+use Rattle.checks.specs.Chained.{opened_view, sweep_refusal, sweeps_called, RecordsAfter}
 use Rattle.checks.proofs.Ends.{opened_ends, swept_ends}
 
 abbrev Answered : Type 0
@@ -28,14 +30,14 @@ not_accepted e h = cc
 
 module _ (v : View) (old : List Pixel) where
   -- the records after an opening that was accepted
-  abbrev Renewed : Opened → Type 0
+  abbrev Renewed : OpenOutcome → Type 0
   Renewed o = ◌≡◌ {A = Answered} (Ok tt) o.0 → o.2 ≡ replicate (o.1.width * o.1.height) new_pixel ++ drop (o.1.width * o.1.height) old
 
-  renewed_by : (x : Result PlainView ViewFault) (w : PlainView) → Renewed (opened_by x w old)
+  renewed_by : (x : Result PlainView ViewFault) (w : PlainView) → Renewed (open_outcome x w old)
   renewed_by (Err f) w = λ e. not_accepted _ e
   renewed_by (Ok x) w = cond_both (ltb (length old) (x.width * x.height)) _ _ Renewed (λ _ e. not_accepted _ e) (λ _ _. refl)
 
-  renewed : (numbers : ViewNumbers) (w : PlainView) (rs : List Pixel) → ◌≡◌ {A = Opened} (Ok tt, plain_view v, rs) (opening numbers w old) → rs ≡ pixels_after v [] ++ drop (area v) old
+  renewed : (numbers : ViewNumbers) (w : PlainView) (rs : List Pixel) → ◌≡◌ {A = OpenOutcome} (Ok tt, plain_view v, rs) (opening numbers w old) → rs ≡ pixels_after v [] ++ drop (area v) old
   renewed numbers w rs e = subst⁻¹ Renewed e (renewed_by (view_answer numbers) w) refl
 
   -- and after one call more
@@ -49,16 +51,16 @@ module _ (v : View) (old : List Pixel) where
       ∙ ap (λ (rs : List Pixel). (line_of v (take (area v) rs) c).1 ++ drop (area v) rs) h
       ∙ ap (λ (qs : List Pixel). (line_of v qs c).1 ++ drop (area v) (ps ++ tail)) (take_at ps tail (area v) long)
       ∙ ap (λ (t : List Pixel). (line_of v ps c).1 ++ t) (drop_at ps tail (area v) long)
-      ∙ ap (λ (qs : List Pixel). qs ++ tail) (sym (play_more v cs (c ∷ []) (new_pixels v)))
+      ∙ ap (λ (qs : List Pixel). qs ++ tail) (sym (log_from_more v cs (c ∷ []) (new_pixels v)))
 
 -- which sweeps are called
 module _ (a b : Body) (m n : ℕ) where
-  one_called : (e : PlateFault) → Err e ≡ sweeps a → sweeping a m ∷ [] ≡ sweeps_called a b m n
+  one_called : (e : PlateFault) → Err e ≡ sweep_refusal a → sweeping a m ∷ [] ≡ sweeps_called a b m n
   one_called e =
       cond_both (is_deep a) (Ok tt) (Err Shallow) (λ (r : Answered). Err e ≡ r → sweeping a m ∷ [] ≡ sweeps_called a b m n)
       (λ _ h. not_accepted e (sym h)) (λ h _. sym (cond-false (is_deep a) _ _ h))
 
-  both_called : Ok tt ≡ sweeps a → sweeping a m ∷ sweeping b n ∷ [] ≡ sweeps_called a b m n
+  both_called : Ok tt ≡ sweep_refusal a → sweeping a m ∷ sweeping b n ∷ [] ≡ sweeps_called a b m n
   both_called =
       cond_both (is_deep a) (Ok tt) (Err Shallow) (λ (r : Answered). Ok tt ≡ r → sweeping a m ∷ sweeping b n ∷ [] ≡ sweeps_called a b m n)
       (λ h _. sym (cond-true (is_deep a) _ _ h)) (λ _ h. not_accepted Shallow h)
@@ -66,9 +68,9 @@ module _ (a b : Body) (m n : ℕ) where
 -- a plate over the records rs, opened by the numbers
 module _ (numbers : ViewNumbers) (old : PlainView) (rs : List Pixel) (a b : Body) (m n : ℕ) where
   abbrev After : List Pixel → Type 0
-  After new = RecordsAfter (opens (view_answer numbers) (length rs)) a b m n rs new
+  After new = RecordsAfter (opened_view (view_answer numbers) (length rs)) a b m n rs new
 
-  module _ (v : View) (r0 : List Pixel) (began : ◌≡◌ {A = Opened} (Ok tt, plain_view v, r0) (opening numbers old rs)) where
+  module _ (v : View) (r0 : List Pixel) (began : ◌≡◌ {A = OpenOutcome} (Ok tt, plain_view v, r0) (opening numbers old rs)) where
     after_calls : (cs : List Call) (new : List Pixel) → cs ≡ sweeps_called a b m n → new ≡ pixels_after v cs ++ drop (area v) rs → After new
     after_calls cs new e h =
         subst (λ (o : Result PlainView PlateFault). RecordsAfter o a b m n rs new) (opened_ends numbers old (plain_view v) rs r0 (Ok tt) began)
@@ -91,5 +93,5 @@ module _ (numbers : ViewNumbers) (old : PlainView) (rs : List Pixel) (a b : Body
 
 -- the same of the records that were lent to the plate
 pub of_lent : (numbers : ViewNumbers) (a b : Body) (m n : ℕ) (rs lent new : List Pixel) → rs ≡ lent
-    → RecordsAfter (opens (view_answer numbers) (length rs)) a b m n rs new → RecordsAfter (opens (view_answer numbers) (length lent)) a b m n lent new
-of_lent numbers a b m n rs lent new e h = subst (λ (rs : List Pixel). RecordsAfter (opens (view_answer numbers) (length rs)) a b m n rs new) e h
+    → RecordsAfter (opened_view (view_answer numbers) (length rs)) a b m n rs new → RecordsAfter (opened_view (view_answer numbers) (length lent)) a b m n lent new
+of_lent numbers a b m n rs lent new e h = subst (λ (rs : List Pixel). RecordsAfter (opened_view (view_answer numbers) (length rs)) a b m n rs new) e h

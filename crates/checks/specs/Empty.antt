@@ -1,13 +1,14 @@
--- A solid of another make than the kit's own: it has no members, and a reach as it is told.
+-- A solid that is no leaf and no layer: it has no members, and a reach that it is given.
 use Rattle.std.specs.Prelude.{ℕ, ◌≤◌, false}
 use Rattle.std.proofs.Common.{arith}
 use Rattle.std.proofs.lemmas.Bool.{false≢true}
+use Rattle.solid.specs.declared.TheConstants.{MOST_REACH}
 use Rattle.solid.specs.Body.{Body, Lawful}
 
 abbrev pub empty : ℕ → Body
 empty r = record { member = λ p. false; reach = r; clear = λ p. 1; exact = false }
 
-pub empty_lawful : (r : ℕ) → r ≤ 1048576 → Lawful (empty r)
+pub empty_lawful : (r : ℕ) → r ≤ MOST_REACH → Lawful (empty r)
 empty_lawful r h = record {
   near_enough = h;
   small = λ p i. omega arith;

@@ -1,8 +1,8 @@
 //! One plate, swept over two solids of two types: what the calls promise, put together.
-ghost use Rattle.std.specs.Prelude.{◌≡◌, [], ◌∷◌, length, IfOk, Ok, Err};
-ghost use Rattle.march.specs.declared.view.View.{View};
-ghost use Rattle.march.specs.Checks.{plain_view, view_answer};
-ghost use Rattle.checks.specs.Chained.{Picture, RecordsAfter, refusal, opens, ends};
+ghost use Rattle.std.specs.Prelude.{◌≡◌, length, IfOk};
+ghost use Rattle.march.specs.Checks.{view_answer};
+ghost use Rattle.checks.specs.Chained.{call_refusal, opened_view, first_refusal};
+ghost use Rattle.checks.specs.Chained.{ViewPicture, RecordsAfter};
 
 use march::{Pixel, ViewNumbers};
 use plate::{Plate, PlateFault};
@@ -20,10 +20,11 @@ pub fn two_sweeps<A: Solid, B: Solid>(
     i: u32,
     j: u32,
 ) -> Result<Pixel, PlateFault>
-    ensures ends { refusal result ≡ ends (opens (view_answer numbers) (length records.old)) (A.Solid.body a.now) (B.Solid.body b.now) i j }
-    ensures picture { IfOk result (λ q. (v : View) × (Ok (plain_view v) ≡ view_answer numbers) × Picture v (A.Solid.body a.now) (B.Solid.body b.now) m n i j q) }
-    ensures records { RecordsAfter (opens (view_answer numbers) (length records.old))
-        (A.Solid.body a.now) (B.Solid.body b.now) m n records.old records.new }
+    ensures refused { let opened = opened_view (view_answer numbers) (length records.old) in
+        call_refusal result ≡ first_refusal opened (A.body a.now) (B.body b.now) i j }
+    ensures picture { IfOk result (ViewPicture numbers (A.body a.now) (B.body b.now) m n i j) }
+    ensures records { let opened = opened_view (view_answer numbers) (length records.old) in
+        RecordsAfter opened (A.body a.now) (B.body b.now) m n records.old records.new }
 {
     let mut plate = Plate::new(records);
     plate.open(numbers)?;

@@ -1,4 +1,4 @@
-//! Checks of the kit on worked numbers and on many cases.
+//! Checks: worked numbers, calls that are chained, and piles with every layer.
 #![tactic(auto)]
 
 ghost use Rattle.std.specs.Prelude.{◌≡◌, length};
@@ -7,9 +7,9 @@ ghost use Rattle.checks.specs.Worked.{table, Worked};
 pub mod chained;
 pub mod empty;
 #[cfg(test)]
-mod layered;
-#[cfg(test)]
 mod logs;
+#[cfg(test)]
+mod pictures;
 pub mod pile;
 #[cfg(test)]
 mod reach;

@@ -1,11 +1,12 @@
-//! A pile with every layer over solids of any make, and a picture of it: what the calls promise, put
-//! together.
+//! A pile with every layer over solids of any make, and a picture of it: what the calls promise,
+//! put together.
 ghost use Rattle.std.specs.Prelude.{◌≡◌, IfOk, length};
 ghost use Rattle.std.specs.Result.{result_map_both};
-ghost use Rattle.refusal.specs.Pairs.{pair};
+ghost use Rattle.refusal.specs.Codes.{pair};
 ghost use Rattle.march.specs.Checks.{view_answer};
-ghost use Rattle.checks.specs.Chained.{opens, ends};
-ghost use Rattle.checks.specs.Piles.{layered, layer_refusal, stack_refusal, picture_refusal, IsStacked, PictureRecords, PilePicture};
+ghost use Rattle.checks.specs.Chained.{opened_view, first_refusal};
+ghost use Rattle.checks.specs.Piles.{full_pile, layer_refusal, pile_refusal, picture_refusal};
+ghost use Rattle.checks.specs.Piles.{IsFullPile, PictureRecords, PilePicture};
 
 use crate::chained::two_sweeps;
 use lattice::Point;
@@ -22,10 +23,10 @@ pub struct LayerNumbers {
     pub most: i32,
 }
 
-/// What a pile is made of: `moved`, shifted, united with `grown`, thickened; what that meets of `clip`; and
-/// over it all a cap.
+/// What a pile is made of: `moved`, shifted, united with `grown`, thickened; what that meets of
+/// `clip`; and over it all a cap.
 #[derive(Drop)]
-pub struct Parts<S, T, U> {
+pub struct PileParts<S, T, U> {
     pub moved: S,
     pub grown: T,
     pub clip: U,
@@ -33,13 +34,16 @@ pub struct Parts<S, T, U> {
 }
 
 /// A pile with every layer.
-pub type Stacked<S, T, U> = Cap<Meet<Unite<Shift<S>, Thicken<T>>, U>>;
+pub type FullPile<S, T, U> = Cap<Meet<Unite<Shift<S>, Thicken<T>>, U>>;
 
-impl<S: Solid + Drop, T: Exact + Drop, U: Solid + Drop> Parts<S, T, U> {
+impl<S: Solid + Drop, T: Exact + Drop, U: Solid + Drop> PileParts<S, T, U> {
     /// Makes the pile. The first layer that is refused ends it, with its fault.
-    pub fn stack(self) -> Result<Stacked<S, T, U>, LayerFault>
-        ensures refused { layer_refusal result ≡ stack_refusal (S.body self.moved).reach self.numbers }
-        ensures stacked { IfOk result (λ pile. IsStacked self.numbers (S.body self.moved) (T.body self.grown) (U.body self.clip) (⟦<Stacked<S, T, U> as Solid>⟧.body pile)) }
+    pub fn pile(self) -> Result<FullPile<S, T, U>, LayerFault>
+        ensures refused { layer_refusal result
+            ≡ pile_refusal (S.body self.moved).reach self.numbers }
+        ensures made { IfOk result (λ pile. IsFullPile self.numbers
+            (S.body self.moved) (T.body self.grown) (U.body self.clip)
+            (⟦<FullPile<S, T, U> as Solid>⟧.body pile)) }
     {
         let moved = Shift::new(self.moved, self.numbers.by)?;
         let grown = Thicken::new(self.grown, self.numbers.thickness)?;
@@ -57,16 +61,21 @@ impl<S: Solid + Drop, T: Exact + Drop, U: Solid + Drop> Parts<S, T, U> {
         i: u32,
         j: u32,
     ) -> Result<Pixel, RefusalCode>
-        ensures refused { let b = layered self.numbers (S.body self.moved) (T.body self.grown) (U.body self.clip) in
-            let layers = stack_refusal (S.body self.moved).reach self.numbers in
-            let calls = ends (opens (view_answer view) (length records.old)) b b i j in
+        ensures refused { let pile = full_pile self.numbers
+            (S.body self.moved) (T.body self.grown) (U.body self.clip) in
+            let layers = pile_refusal (S.body self.moved).reach self.numbers in
+            let opened = opened_view (view_answer view) (length records.old) in
+            let calls = first_refusal opened pile pile i j in
             result_map_both (λ _. tt) pair result ≡ picture_refusal layers calls }
-        ensures records { let b = layered self.numbers (S.body self.moved) (T.body self.grown) (U.body self.clip) in
-            PictureRecords (stack_refusal (S.body self.moved).reach self.numbers)
-            (opens (view_answer view) (length records.old)) b budget records.old records.new }
-        ensures shown { IfOk result (PilePicture view self.numbers (S.body self.moved) (T.body self.grown) (U.body self.clip) budget i j) }
+        ensures records { let pile = full_pile self.numbers
+            (S.body self.moved) (T.body self.grown) (U.body self.clip) in
+            let layers = pile_refusal (S.body self.moved).reach self.numbers in
+            let opened = opened_view (view_answer view) (length records.old) in
+            PictureRecords layers opened pile budget records.old records.new }
+        ensures shown { IfOk result (PilePicture view self.numbers
+            (S.body self.moved) (T.body self.grown) (U.body self.clip) budget i j) }
     {
-        let pile = self.stack().map_err(|fault| RefusalCode::of(&fault))?;
+        let pile = self.pile().map_err(|fault| RefusalCode::of(&fault))?;
         let read = two_sweeps(records, view, &pile, &pile, budget, budget, i, j);
         read.map_err(|fault| RefusalCode::of(&fault))
     }

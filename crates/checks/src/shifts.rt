@@ -1,6 +1,6 @@
 //! A ball under 62 to 65 shifts.
-// Types nest at most 64 deep where they are written. So a function that is generic makes some of the
-// shifts, and hands what it made to the next.
+// Types nest at most 64 deep where they are written. So a function that is generic makes some of
+// the shifts, and hands what it made to the next.
 use lattice::Point;
 use layers::{LayerFault, Shift};
 use leaves::Ball;
@@ -29,7 +29,8 @@ fn sixteen<S: Solid + Drop>(solid: S) -> Result<Four<Four<Four<Four<S>>>>, Layer
     four(four(four(four(solid)?)?)?)
 }
 
-/// The reaches of a solid, of one shift of it and of two, and the number by which a third is refused.
+/// The reaches of a solid, of one shift of it and of two, and the number by which a third is
+/// refused.
 type Reaches = ([u32; 3], Option<u32>);
 
 fn reaches<S: Solid + Drop>(solid: S) -> Result<Reaches, LayerFault> {

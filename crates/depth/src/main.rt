@@ -4,16 +4,16 @@
 
 use anyhow::anyhow;
 use march::Pixel;
-use render::{MOST_BYTES, MOST_PIXELS, render};
+use render::{MOST_BYTES, MOST_INPUT, MOST_PIXELS, render};
 use std::io::{Read, Write};
 
 /// One byte more than any lawful input has, so that a longer one is seen to be too long.
-const LIMIT: u64 = 23_641;
+const LIMIT: u64 = MOST_INPUT as u64 + 1;
 
 fn main(rt: HostRuntime) -> anyhow::Result<()> {
     let mut input = Vec::new(rt.alloc());
     rt.stdin().take(LIMIT).read_to_end(&mut input)?;
-    // The kit uses no heap: what it works on is lent to it.
+    // The call uses no heap: what it works on is lent to it.
     let mut records = Vec::new(rt.alloc());
     records.resize(MOST_PIXELS, Pixel::Miss { probes: 0 })?;
     let mut out = Vec::new(rt.alloc());

@@ -7,8 +7,8 @@ ghost use Rattle.depth_c.specs.Exported.{depth_render};
 use march::Pixel;
 use render::{MOST_PIXELS, render};
 
-/// What is answered where nothing is written. C has no `Result`: a length of 0, which no answer has,
-/// stands for a refused call.
+/// What is answered where nothing is written. C has no `Result`: a length of 0, which no answer
+/// has, stands for a refused call.
 const NOTHING: usize = 0;
 
 /// Reads a model, writes its depth image or the word of its refusal in front of the bytes, and

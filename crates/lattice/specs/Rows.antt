@@ -1,6 +1,6 @@
 -- The directions: row k = 9a + 3b + c of the table, with a, b and c in 0..2, is (a - 1, b - 1, c - 1).
 use Rattle.std.specs.Prelude.{◌≡◌, ℕ, ◌+◌, ◌*◌, ◌/◌, ◌%◌, ◌<◌, if◌then◌else◌, ℤ, pos, negsuc, ◌-ℤ◌, Some, None, Option, Result, ◌==◌, nat_lt, ok_or}
-use Rattle.lattice.specs.declared.direction.TheConstants.{STILL}
+use Rattle.lattice.specs.declared.direction.TheConstants.{ROWS, STILL}
 use Rattle.lattice.specs.declared.direction.Direction.{Direction}
 use Rattle.lattice.specs.declared.direction.NoRow.{NoRow}
 
@@ -17,7 +17,7 @@ triple k = (pos (k / 9) -ℤ pos 1, pos (k / 3 % 3) -ℤ pos 1, pos (k % 3) -ℤ
 
 -- the row that a number names: none outside 0..26, nor at the one that does not move
 abbrev pub row_of : ℤ → Option Way
-row_of (pos k) = if nat_lt k 27 then (if k == STILL then None else Some (triple k)) else None
+row_of (pos k) = if nat_lt k ROWS then (if k == STILL then None else Some (triple k)) else None
 row_of (negsuc k) = None
 
 -- the number and the place of the refusal

@@ -18,8 +18,11 @@ pub struct Direction {
     ghost moves: { 1 ≤ unsigned_abs x + unsigned_abs y + unsigned_abs z },
 }
 
+/// How many rows the table of directions has.
+const ROWS: usize = 27;
+
 /// Row 9a + 3b + c, with a, b and c in 0..2, is (a - 1, b - 1, c - 1).
-const DIRECTIONS: [(i32, i32, i32); 27] = [
+const DIRECTIONS: [(i32, i32, i32); ROWS] = [
     (-1, -1, -1),
     (-1, -1, 0),
     (-1, -1, 1),
@@ -53,18 +56,18 @@ const DIRECTIONS: [(i32, i32, i32); 27] = [
 const STILL: usize = 13;
 
 impl Direction {
-    ghost use Rattle.lattice.specs.declared.direction.TheConstants.{STILL};
+    ghost use Rattle.lattice.specs.declared.direction.TheConstants.{ROWS, STILL};
     ghost use Rattle.lattice.specs.Rows.{triple, way, row_answer, TableRule};
 
     fn triple(k: usize) -> (i32, i32, i32)
-        requires { k < 27 }
+        requires { k < ROWS }
         ensures { result ≡ triple k }
     {
         DIRECTIONS[k]
     }
 
     fn way(k: usize) -> Direction
-        requires { (k < 27) × (k ≢ STILL) }
+        requires { (k < ROWS) × (k ≢ STILL) }
         ensures { way result ≡ triple k }
     {
         let (x, y, z) = Direction::triple(k);

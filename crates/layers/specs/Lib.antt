@@ -1,3 +1,4 @@
+pub mod Checks
 pub mod Codes
 pub mod Made
 pub mod Piled

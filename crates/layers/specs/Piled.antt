@@ -8,11 +8,15 @@ use Rattle.piles.specs.Pile.{Pile}
 
 -- members of either, and exact over two exact ones
 abbrev pub UnitesPiles : (left right made : Body) → Type 0
-UnitesPiles left right made = (M N : Point → Bool) (e f : Bool) → Pile M e left → Pile N f right → Pile (λ p. M p || N p) (e && f) made
+UnitesPiles left right made =
+    (M N : Point → Bool) (e f : Bool)
+    → Pile M e left → Pile N f right → Pile (λ p. M p || N p) (e && f) made
 
 -- members of both
 abbrev pub MeetsPiles : (left right made : Body) → Type 0
-MeetsPiles left right made = (M N : Point → Bool) (e f : Bool) → Pile M e left → Pile N f right → Pile (λ p. M p && N p) false made
+MeetsPiles left right made =
+    (M N : Point → Bool) (e f : Bool)
+    → Pile M e left → Pile N f right → Pile (λ p. M p && N p) false made
 
 -- the members moved by v, and exact over an exact one
 abbrev pub ShiftsPiles : Point → (below made : Body) → Type 0

@@ -1,2 +1,4 @@
 pub mod Codes
+pub mod Ball
 pub mod Made
+pub mod Surface

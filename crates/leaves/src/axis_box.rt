@@ -1,5 +1,5 @@
 //! The box.
-ghost use Rattle.std.specs.Prelude.{◌≡◌, min, true};
+ghost use Rattle.std.specs.Prelude.{◌≡◌, min, IsTrue};
 ghost use Rattle.std.specs.Result.{result_map_both};
 ghost use Rattle.lattice.specs.Space.{IsPlacement, ordered};
 ghost use Rattle.lattice.proofs.Distance.{placement_in};
@@ -8,7 +8,7 @@ ghost use Rattle.piles.proofs.Boxes.{block_lawful};
 ghost use Rattle.leaves.specs.Made.{box_made};
 
 use super::fault::{LeafFault, check_point};
-use super::{LEAF_REACH, LeafPoint};
+use super::leaf_point::{LEAF_REACH, LeafPoint};
 use lattice::{Point, ordered};
 use solid::{Exact, MOST_CLEARANCE, QuestionFault, Solid};
 
@@ -19,7 +19,7 @@ pub struct AxisBox {
     pub hi: Point,
     ghost lo_is_placement: { IsPlacement lo },
     ghost hi_is_placement: { IsPlacement hi },
-    ghost upright: { ordered lo hi ≡ true },
+    ghost in_order: { IsTrue (ordered lo hi) },
 }
 
 /// Where a box's numbers stand among those of its making.
@@ -29,9 +29,11 @@ const HI_PLACE: u32 = 4;
 
 impl AxisBox {
     /// The box of those corners. Their coordinates, numbers 1 to 3 and 4 to 6, lie in
-    /// -16384..=16383, and the first that does not is refused; then a `lo` above `hi` on an axis is.
+    /// -16384..=16383, and the first that does not is refused; then a `lo` above `hi` on an axis
+    /// is.
     pub fn new(lo: Point, hi: Point) -> Result<AxisBox, LeafFault>
-        ensures { result_map_both (λ (b : AxisBox). (b.lo, b.hi)) (λ e. e) result ≡ box_made lo hi }
+        ensures { result_map_both (λ (b : AxisBox). (b.lo, b.hi)) (λ e. e) result
+            ≡ box_made lo hi }
     {
         check_point(lo, LO_PLACE)?;
         check_point(hi, HI_PLACE)?;
@@ -54,7 +56,8 @@ impl AxisBox {
 impl Solid for AxisBox {
     ghost body = { λ s. block s.lo s.hi };
 
-    ghost lawful = { λ s. block_lawful s.lo s.hi (placement_in s.lo s.lo_is_placement) (placement_in s.hi s.hi_is_placement) s.upright };
+    ghost lawful = { λ s. block_lawful s.lo s.hi
+        (placement_in s.lo s.lo_is_placement) (placement_in s.hi s.hi_is_placement) s.in_order };
 
     fn reach(&self) -> u32 {
         LEAF_REACH

@@ -1,10 +1,10 @@
 //! Why a leaf's numbers are refused.
-ghost use Rattle.std.specs.Prelude.{◌≡◌, ◌≤◌, true, is_ok, Some};
+ghost use Rattle.std.specs.Prelude.{◌≡◌, ◌+◌, ◌^◌, ◌<◌, OnOk, Some};
 ghost use Rattle.refusal.specs.Texts.{refusal_text};
 ghost use Rattle.lattice.specs.Space.{IsPlacement};
 ghost use Rattle.leaves.specs.Codes.{leaf_code, surface_code};
 ghost use Rattle.leaves.specs.declared.fault.LeafFault.TheVariants.{Range};
-ghost use Rattle.leaves.specs.Made.{point_ranged};
+ghost use Rattle.leaves.specs.Made.{point_in_range};
 
 use lattice::{LEAST_COORDINATE, MOST_COORDINATE, Point};
 use refusal::{OutOfRange, Refusal, RefusalCode, Rule, in_range};
@@ -86,11 +86,11 @@ impl fmt::Display for SurfaceFault {
 }
 
 /// Checks the three numbers of a point, the first of which stands at the place `first`.
-#[tactic(auto, unfolding(crate::specs::Made::point_ranged, crate::specs::Made::ranged))]
+#[tactic(auto, unfolding(crate::specs::Made::point_in_range))]
 pub(crate) fn check_point(p: Point, first: u32) -> Result<(), LeafFault>
-    requires { first ≤ 4 }
-    ensures value { result ≡ point_ranged p first }
-    ensures placement { is_ok result ≡ true → IsPlacement p }
+    requires { first + 2 < 2 ^ 32 }
+    ensures value { result ≡ point_in_range p first }
+    ensures placement { OnOk result (IsPlacement p) }
 {
     in_range(p.x, LEAST_COORDINATE, MOST_COORDINATE, first)?;
     in_range(p.y, LEAST_COORDINATE, MOST_COORDINATE, first + 1)?;

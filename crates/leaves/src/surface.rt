@@ -1,14 +1,17 @@
 //! The surface: columns that stand side by side on a sheet.
-ghost use Rattle.std.specs.Prelude.{◌≡◌, ◌*◌, ◌≤◌, cond, length, unsigned_abs, Ok, Err};
+ghost use Rattle.std.specs.Prelude.{◌≡◌, ◌≤◌, length, unsigned_abs, Ok};
 ghost use Rattle.std.specs.Result.{result_map_both};
+ghost use Rattle.refusal.specs.Checks.{unless};
 ghost use Rattle.piles.specs.Leaves.{last_column, greatest, off_bounding_block};
 ghost use Rattle.piles.proofs.Surfaces.{surface_lawful};
 ghost use Rattle.leaves.specs.declared.fault.SurfaceFault.TheVariants.{Size};
-ghost use Rattle.leaves.specs.Made.{is_side, size_made, sheet_made, surface_body};
+ghost use Rattle.leaves.specs.declared.surface.TheConstants.{LONGEST_SIDE};
+ghost use Rattle.leaves.specs.Surface.{width_columns, depth_columns, all_columns, is_side, IsSide};
+ghost use Rattle.leaves.specs.Surface.{size_made, sheet_made, surface_body};
 
 use super::axis::outside;
 use super::fault::SurfaceFault;
-use super::{LEAF_REACH, LeafPoint};
+use super::leaf_point::{LEAF_REACH, LeafPoint};
 use lattice::Point;
 use solid::{QuestionFault, Solid};
 
@@ -17,9 +20,12 @@ pub const SHORTEST_SIDE: i32 = 1;
 
 pub const LONGEST_SIDE: i32 = 64;
 
+/// The most columns that a sheet has.
+pub const MOST_COLUMNS: usize = 4096;
+
 /// A width or a depth that lies in its range.
 fn side(n: i32) -> Result<u32, SurfaceFault>
-    ensures { result ≡ cond (is_side n) (Ok (unsigned_abs n)) (Err Size) }
+    ensures { result ≡ unless (is_side n) Size (Ok (unsigned_abs n)) }
 {
     if !(SHORTEST_SIDE..=LONGEST_SIDE).contains(&n) {
         return Err(SurfaceFault::Size);
@@ -35,7 +41,8 @@ pub struct SurfaceSize {
 }
 
 impl SurfaceSize {
-    /// The size of those sides; refused with 13 outside 1..=64, then with 18 for too few heights.
+    /// The size of those sides. Refused with 13 outside 1..=64, then with 18 where there is room
+    /// for fewer heights than columns.
     pub fn for_room(width: i32, depth: i32, room: usize) -> Result<SurfaceSize, SurfaceFault>
         ensures { result ≡ size_made width depth room }
     {
@@ -51,21 +58,21 @@ impl SurfaceSize {
 
     /// How many columns stand side by side along x.
     pub fn width(self) -> u32
-        ensures { result ≡ self.width }
+        ensures { result ≡ width_columns self }
     {
         self.width
     }
 
     /// How many stand along y.
     pub fn depth(self) -> u32
-        ensures { result ≡ self.depth }
+        ensures { result ≡ depth_columns self }
     {
         self.depth
     }
 
     /// How many columns the surface has.
     pub fn columns(self) -> usize
-        ensures { result ≡ self.width * self.depth }
+        ensures { result ≡ all_columns self }
     {
         self.width as usize * self.depth as usize
     }
@@ -77,16 +84,18 @@ impl SurfaceSize {
 pub struct Sheet<'a> {
     pub size: SurfaceSize,
     pub heights: &'a [i16],
-    ghost wide: { (1 ≤ size.width) × (size.width ≤ 64) },
-    ghost deep: { (1 ≤ size.depth) × (size.depth ≤ 64) },
-    ghost full: { length heights.now ≡ size.width * size.depth },
+    ghost width_in_range: { IsSide (width_columns size) },
+    ghost depth_in_range: { IsSide (depth_columns size) },
+    ghost a_height_each: { length heights.now ≡ all_columns size },
 }
 
 impl<'a> Sheet<'a> {
-    /// The sheet of that width and depth over the first heights, one for each column, whatever they are.
-    /// Refused with 13 where a side is outside 1..=64, then with 18 for fewer heights than columns.
+    /// The sheet of that width and depth over the first heights, one for each column, whatever they
+    /// are. Refused with 13 where a side is outside 1..=64, then with 18 for fewer heights than
+    /// columns.
     pub fn check(width: i32, depth: i32, heights: &'a [i16]) -> Result<Sheet<'a>, SurfaceFault>
-        ensures { result_map_both (λ (s : Sheet). (s.size, s.heights.now)) (λ e. e) result ≡ sheet_made width depth heights.now }
+        ensures { result_map_both (λ (s : Sheet). (s.size, s.heights.now)) (λ e. e) result
+            ≡ sheet_made width depth heights.now }
     {
         let size = SurfaceSize::for_room(width, depth, heights.len())?;
         Ok(Sheet {
@@ -97,7 +106,7 @@ impl<'a> Sheet<'a> {
 
     /// The greatest height.
     fn greatest(&self) -> i16
-        ensures { result ≡ greatest (self.now.size.width * self.now.size.depth) self.now.heights.now }
+        ensures { result ≡ greatest (all_columns self.now.size) self.now.heights.now }
     {
         let mut top = i16::MIN;
         for height in self.heights {
@@ -109,7 +118,7 @@ impl<'a> Sheet<'a> {
 
 /// The last column along a side.
 fn last(side: u32) -> i32
-    requires { side ≤ 64 }
+    requires { side ≤ unsigned_abs LONGEST_SIDE }
     ensures { result ≡ last_column side }
 {
     side as i32 - 1
@@ -120,13 +129,14 @@ fn last(side: u32) -> i32
 pub struct Surface<'a> {
     sheet: Sheet<'a>,
     top: i16,
-    ghost highest: { top ≡ greatest (sheet.size.width * sheet.size.depth) sheet.heights.now },
+    ghost top_is_greatest: { top ≡ greatest (all_columns sheet.size) sheet.heights.now },
 }
 
 impl<'a> Surface<'a> {
     /// The surface of a sheet.
     pub fn new(sheet: Sheet<'a>) -> Surface<'a>
-        ensures { ⟦<Surface<'a> as Solid>⟧.body result ≡ surface_body sheet.entry.size sheet.entry.heights.now }
+        ensures { ⟦<Surface<'a> as Solid>⟧.body result
+            ≡ surface_body sheet.entry.size sheet.entry.heights.now }
     {
         let top = sheet.greatest();
         Surface { sheet, top }
@@ -134,7 +144,8 @@ impl<'a> Surface<'a> {
 
     /// Is the point a member: on the sheet, and no higher than the column there?
     fn in_column(&self, p: Point) -> bool
-        ensures { result ≡ (surface_body self.now.sheet.size self.now.sheet.heights.now).member p }
+        ensures { result
+            ≡ (surface_body self.now.sheet.size self.now.sheet.heights.now).member p }
     {
         let size = self.sheet.size;
         if !(0..=last(size.width)).contains(&p.x) {
@@ -148,8 +159,9 @@ impl<'a> Surface<'a> {
     }
 
     /// How far the point lies off the block that bounds the columns.
-    fn off_block(&self, p: LeafPoint) -> u32
-        ensures { result ≡ off_bounding_block self.now.sheet.size.width self.now.sheet.size.depth self.now.top p.at }
+    fn off_bounding_block(&self, p: LeafPoint) -> u32
+        ensures { let size = self.now.sheet.size in
+            result ≡ off_bounding_block (width_columns size) (depth_columns size) self.now.top p.at }
     {
         let x = outside(0, last(self.sheet.size.width), p.at.x);
         let y = outside(0, last(self.sheet.size.depth), p.at.y);
@@ -164,7 +176,8 @@ const LEAST_STRIDE: u32 = 1;
 impl<'a> Solid for Surface<'a> {
     ghost body = { λ s. surface_body s.sheet.size s.sheet.heights.now };
 
-    ghost lawful = { λ s. surface_lawful s.sheet.size.width s.sheet.size.depth s.sheet.heights.now };
+    ghost lawful = { λ s. surface_lawful
+        (width_columns s.sheet.size) (depth_columns s.sheet.size) s.sheet.heights.now };
 
     fn reach(&self) -> u32 {
         LEAF_REACH
@@ -175,6 +188,6 @@ impl<'a> Solid for Surface<'a> {
         if self.in_column(p.at) {
             return Ok(0);
         }
-        Ok(self.off_block(p).max(LEAST_STRIDE))
+        Ok(self.off_bounding_block(p).max(LEAST_STRIDE))
     }
 }

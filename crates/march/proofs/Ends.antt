@@ -6,13 +6,16 @@ use Rattle.solid.specs.Body.{Body, Lawful}
 use Rattle.march.specs.declared.pixel.Pixel.{Pixel}
 use Rattle.march.specs.declared.pixel.Pixel.TheVariants.{Marching as marching, Hit as hit, Miss as miss}
 use Rattle.march.specs.declared.marching.Marching.{Marching}
+use Rattle.march.specs.declared.settled.Outcome.{Outcome}
 use Rattle.march.specs.declared.settled.Outcome.TheVariants.{Hit, Miss}
 use Rattle.march.specs.declared.settled.Settled.{Settled}
 use Rattle.march.specs.March.{after_probe, settle, marches, probes, IsRight}
+use Rattle.march.specs.declared.deep.TheConstants.{WORKING_RANGE}
+use Rattle.march.specs.Deep.{IsDeep}
 use Rattle.march.specs.View.{along}
-use Rattle.march.specs.Rays.{PlainRay, plain_ray, clear_of, member_of, settled_pixel, on, done, ray_after, step_of, end_of, IsFirstContact}
+use Rattle.march.specs.Rays.{PlainRay, plain_ray, clear_of, member_of, pixel_of, settled_pixel, on, done, ray_after, step_of, end_of, IsFirstContact}
 use Rattle.march.proofs.RaySteps.{stepped_by, settled_stays, settled_same, right_settled, takes_some, takes_settles, Settles}
-use Rattle.march.proofs.Space.{ray_in}
+use Rattle.march.proofs.Space.{point_in_range}
 use Rattle.march.proofs.Bodies.{body_clears}
 
 not_done : {A : Type 0} (s : PlainRay) (p : Pixel) → on s ≡ done p → A
@@ -58,24 +61,28 @@ module _ (b : Body) (r : PlainRay) where
       stays : (q : Pixel) → marches q ≡ false → (settle (clear_of b r) r.far r.far q).0 ≡ q
       stays q e = ap (λ (s : Pixel × ℕ). s.0) (settled_stays (clear_of b r) r.far r.far q e)
 
-probes_of : (s : Settled) → s.probes ≡ probes (settled_pixel s)
-probes_of s = elim s.outcome as (λ o. s.probes ≡ probes (settled_pixel (record { outcome = o; probes = s.probes }))) [ Hit d ↦ refl | Miss ↦ refl ]
+same_probes : (s : Settled) → s.probes ≡ probes (settled_pixel s)
+same_probes s = by s.outcome
+  where
+    by : (o : Outcome) → s.probes ≡ probes (pixel_of o s.probes)
+    by (Hit d) = refl
+    by Miss = refl
 
 -- what the end of its march tells, over a lawful body that is deep enough
-pub contact : (b : Body) → Lawful b → 32767 ≤ b.reach → (m : Marching) (s : Settled) → settled_pixel s ≡ end_of b (plain_ray m) → IsFirstContact b (plain_ray m) s
+pub contact : (b : Body) → Lawful b → IsDeep b → (m : Marching) (s : Settled) → settled_pixel s ≡ end_of b (plain_ray m) → IsFirstContact b (plain_ray m) s
 contact b law deep m s e =
     let r = plain_ray m in
     let c = clear_of b r in
     let fuel = r.far + 1 - r.t in
-    let far_in : (t : ℕ) → t ≤ m.ray.far → In 32767 (along m.ray.start t m.ray.toward) = λ t h. ray_in m.ray.start m.ray.toward t m.ray.far (m.ray.x_in_range, m.ray.y_in_range, m.ray.z_in_range) m.ray.far_in_range h in
-    let k = takes_some c r.far fuel r.t m.onto (omega (arith, m.onto)) in
+    let far_in : (t : ℕ) → t ≤ m.ray.far → In WORKING_RANGE (along m.ray.start t m.ray.toward) = λ t h. point_in_range m.ray.start m.ray.toward t m.ray.far (m.ray.x_in_range, m.ray.y_in_range, m.ray.z_in_range) m.ray.far_in_range h in
+    let k = takes_some c r.far fuel r.t m.t_in_range (omega (arith, m.t_in_range)) in
     let rest = r.far + 1 - k.0 in
     let whole : k.0 + rest ≡ r.far + 1 = omega arith in
     let ends : Settles c r.far (r.far + 1) rest (r.probes + k.0) (marching r.t r.probes) =
     subst (λ (n : ℕ). Settles c r.far n rest (r.probes + k.0) (marching r.t r.probes)) whole (takes_settles c r.far rest r.probes k.2) in
-    let count : s.probes ≡ r.probes + k.0 = probes_of s ∙ ap probes e ∙ ends.1 in
+    let count : s.probes ≡ r.probes + k.0 = same_probes s ∙ ap probes e ∙ ends.1 in
     record {
-      right = λ none. subst⁻¹ (IsRight (member_of b r) r.far) e (right_settled (member_of b r) r.far c (body_clears m.ray.start m.ray.toward m.ray.far far_in b.member b law deep (λ q. refl)) (r.far + 1) (marching r.t r.probes) (m.onto, none));
+      right = λ none. subst⁻¹ (IsRight (member_of b r) r.far) e (right_settled (member_of b r) r.far c (body_clears m.ray.start m.ray.toward m.ray.far far_in b.member b law deep (λ q. refl)) (r.far + 1) (marching r.t r.probes) (m.t_in_range, none));
       takes = (k.0, k.2, count);
-      most = omega (arith, m.counted, m.onto);
+      most = omega (arith, m.probes_in_range, m.t_in_range);
     }

@@ -1,22 +1,25 @@
 -- The numbers of a view that stand: what they are within, and the view that they make.
-use Rattle.std.proofs.Common.{◌≡◌, ℕ, ◌≤◌, Bool, true, false, cond, ◌&&◌, ℤ, pos, negsuc, nat_abs, Ok, Err, Result, sym, refl, ap, ◌∙◌, arith}
+use Rattle.std.proofs.Common.{◌≡◌, ℕ, ◌+◌, ◌≤◌, Bool, true, false, if◌then◌else◌, ℤ, pos, nat_abs, Some, None, Option, Ok, Err, Result, sym, refl, ap, ◌∙◌, arith}
 use mathlib.Core.Path.{subst⁻¹}
-use lib.Signed.{le_z}
+use Rattle.std.specs.Option.{ok_or}
+use Rattle.std.specs.Result.{result_map_both}
+use Rattle.lattice.specs.declared.TheConstants.{LEAST_COORDINATE, MOST_COORDINATE}
 use borrow.Author.Differences.{ints}
 use Rattle.lattice.specs.declared.Point.{Point}
 use Rattle.lattice.specs.Space.{In}
 use Rattle.march.specs.declared.view.ViewNumbers.{ViewNumbers}
 use Rattle.march.specs.declared.fault.ViewFault.{ViewFault}
-use Rattle.march.specs.declared.fault.ViewFault.TheVariants.{Range}
 use Rattle.refusal.specs.Checks.{and_then}
-use Rattle.lattice.specs.Rows.{Way}
-use Rattle.march.specs.Checks.{range_answer, count_answer, part_answer, origin_answer, ways_answer, sizes_answer, view_answer}
+use Rattle.lattice.specs.Rows.{Way, row_of, row_answer}
+use Rattle.refusal.specs.Ranges.{between, in_range, count_in}
+use Rattle.march.specs.declared.view.TheConstants.{LEAST_SIDE, MOST_SIDE, MOST_FAR, ORIGIN_PLACE, WIDTH_PLACE, HEIGHT_PLACE, FAR_PLACE}
+use Rattle.march.specs.Checks.{with_range_fault, with_row_fault, coordinate_answer, origin_answer, ways_answer, sizes_answer, view_answer}
 
 -- one check after another
-then_ok : {A B : Type 0} (r : Result A ViewFault) (next : A → Result B ViewFault) (a : A) → Ok a ≡ r → and_then r next ≡ next a
+pub then_ok : {A B : Type 0} (r : Result A ViewFault) (next : A → Result B ViewFault) (a : A) → Ok a ≡ r → and_then r next ≡ next a
 then_ok r next a e = sym (ap (λ r. and_then r next) e)
 
-then_err : {A B : Type 0} (r : Result A ViewFault) (next : A → Result B ViewFault) (f : ViewFault) → Err f ≡ r → and_then r next ≡ Err f
+pub then_err : {A B : Type 0} (r : Result A ViewFault) (next : A → Result B ViewFault) (f : ViewFault) → Err f ≡ r → and_then r next ≡ Err f
 then_err r next f e = sym (ap (λ r. and_then r next) e)
 
 -- what passed a chain passed its first check, and then the rest of it
@@ -27,52 +30,71 @@ passed : {A B : Type 0} (r : Result A ViewFault) (next : A → Result B ViewFaul
 passed (Ok a) next b e = (a, refl, e)
 passed (Err f) next b e = let z : ◌≡◌ {A = ℕ} 0 1 = cc in absurd (omega arith)
 
--- a number that passed is in its range
-chosen : (b : Bool) (n m : ℤ) (f : ViewFault) → Ok m ≡ cond b (Ok n) (Err f) → (b ≡ true) × (m ≡ n)
-chosen true n m f e = (refl, cc)
-chosen false n m f e = let z : ◌≡◌ {A = ℕ} 0 1 = cc in absurd (omega arith)
+-- a number that passed lies in its range, and is the one that was checked
+range_passed : (n lo hi : ℤ) (place : ℕ) (m : ℤ) → Ok m ≡ with_range_fault (in_range n lo hi place)
+    → (between lo hi n ≡ true) × (m ≡ n)
+range_passed n lo hi place m e = chosen (between lo hi n) refl e
+  where
+    chosen : (b : Bool) → between lo hi n ≡ b → Ok m ≡ with_range_fault (if b then Ok n else Err (record { place = place }))
+        → (between lo hi n ≡ true) × (m ≡ n)
+    chosen true h e = (h, cc)
+    chosen false h e = let z : ◌≡◌ {A = ℕ} 0 1 = cc in absurd (omega arith)
 
-abbrev Between : (lo hi m : ℤ) → Type 0
-Between lo hi m = (le_z lo m && le_z m hi) ≡ true
+pub coordinate_passed : (n : ℤ) (place : ℕ) (m : ℤ) → Ok m ≡ coordinate_answer n place
+    → (between LEAST_COORDINATE MOST_COORDINATE n ≡ true) × (m ≡ n)
+unfolding coordinate_answer
+coordinate_passed n place m e = range_passed n LEAST_COORDINATE MOST_COORDINATE place m e
 
-in_range : (lo hi n m : ℤ) (place : ℕ) → Ok m ≡ range_answer lo hi n place → Between lo hi m
-unfolding range_answer
-in_range lo hi n m place e =
-    let h = chosen (le_z lo n && le_z n hi) n m (Range place) e in
-    ap (λ m. le_z lo m && le_z m hi) h.1 ∙ h.0
+-- and so with one that counts, which becomes its size
+pub count_passed : (n lo hi : ℤ) (place m : ℕ) → Ok m ≡ with_range_fault (count_in n lo hi place)
+    → (between lo hi n ≡ true) × (m ≡ nat_abs n)
+count_passed n lo hi place m e = chosen (between lo hi n) refl e
+  where
+    chosen : (b : Bool) → between lo hi n ≡ b
+        → Ok m ≡ with_range_fault (result_map_both nat_abs (λ f. f) (if b then Ok n else Err (record { place = place })))
+        → (between lo hi n ≡ true) × (m ≡ nat_abs n)
+    chosen true h e = (h, cc)
+    chosen false h e = let z : ◌≡◌ {A = ℕ} 0 1 = cc in absurd (omega arith)
 
-part_near : (n m : ℤ) (place : ℕ) → Ok m ≡ part_answer n place → nat_abs m ≤ 16384
-part_near n m place e = let h : Between (negsuc 16383) (pos 16383) m = in_range (negsuc 16383) (pos 16383) n m place e in grind (arith, ints)
+-- and with one that names a row
+pub row_passed : (n : ℤ) (place : ℕ) (w : Way) → Ok w ≡ with_row_fault (row_answer n place) → row_of n ≡ Some w
+row_passed n place w e = found (row_of n) refl e
+  where
+    found : (row : Option Way) → row_of n ≡ row → Ok w ≡ with_row_fault (ok_or row (record { place = place })) → row_of n ≡ Some w
+    found (Some v) h e = let same : w ≡ v = cc in h ∙ ap Some (sym same)
+    found None h e = let z : ◌≡◌ {A = ℕ} 0 1 = cc in absurd (omega arith)
 
-count_most : (lo hi m place : ℕ) (n : ℤ) → Ok m ≡ count_answer (pos lo) (pos hi) n place → m ≤ hi
-unfolding count_answer
-count_most lo hi m place n e =
-    let p = passed (range_answer (pos lo) (pos hi) n place) (λ m. Ok (nat_abs m)) m e in
-    let h : Between (pos lo) (pos hi) p.0 = in_range (pos lo) (pos hi) n p.0 place p.1 in
-    let q : m ≡ nat_abs p.0 = cc p.2 in
-    grind (arith, ints)
+coordinate_near : (n m : ℤ) (place : ℕ) → Ok m ≡ coordinate_answer n place → nat_abs m ≤ nat_abs LEAST_COORDINATE
+coordinate_near n m place e =
+    let h = coordinate_passed n place m e in
+    let near : nat_abs n ≤ nat_abs LEAST_COORDINATE = grind (arith, ints) in
+    subst⁻¹ (λ (m : ℤ). nat_abs m ≤ nat_abs LEAST_COORDINATE) h.1 near
 
-pub origin_near : (n : ViewNumbers) (q : Point) → Ok q ≡ origin_answer n → In 16384 q
+count_most : (n : ℤ) (lo hi place m : ℕ) → Ok m ≡ with_range_fault (count_in n (pos lo) (pos hi) place) → m ≤ hi
+count_most n lo hi place m e = let h = count_passed n (pos lo) (pos hi) place m e in grind (arith, ints)
+
+pub origin_near : (n : ViewNumbers) (q : Point) → Ok q ≡ origin_answer n → In (nat_abs LEAST_COORDINATE) q
 unfolding origin_answer
 origin_near n q e =
     let p = n.origin in
-    let a = passed (part_answer p.x 1) _ q e in
-    let b = passed (part_answer p.y 2) _ q a.2 in
-    let c = passed (part_answer p.z 3) _ q b.2 in
+    let a = passed (coordinate_answer p.x ORIGIN_PLACE) _ q e in
+    let b = passed (coordinate_answer p.y (ORIGIN_PLACE + 1)) _ q a.2 in
+    let c = passed (coordinate_answer p.z (ORIGIN_PLACE + 2)) _ q b.2 in
     let s : q ≡ record { x = a.0; y = b.0; z = c.0 } = cc c.2 in
-    subst⁻¹ (In 16384) s (part_near p.x a.0 1 a.1, part_near p.y b.0 2 b.1, part_near p.z c.0 3 c.1)
+    subst⁻¹ (In (nat_abs LEAST_COORDINATE)) s
+    (coordinate_near p.x a.0 _ a.1, coordinate_near p.y b.0 _ b.1, coordinate_near p.z c.0 _ c.1)
 
 abbrev Small : ℕ × ℕ × ℕ → Type 0
-Small s = (s.0 ≤ 64) × (s.1 ≤ 64) × (s.2 ≤ 4095)
+Small s = (s.0 ≤ nat_abs MOST_SIDE) × (s.1 ≤ nat_abs MOST_SIDE) × (s.2 ≤ nat_abs MOST_FAR)
 
 pub sizes_small : (n : ViewNumbers) (s : ℕ × ℕ × ℕ) → Ok s ≡ sizes_answer n → Small s
 unfolding sizes_answer
 sizes_small n s e =
-    let a = passed (count_answer (pos 1) (pos 64) n.width 7) _ s e in
-    let b = passed (count_answer (pos 1) (pos 64) n.height 8) _ s a.2 in
-    let c = passed (count_answer (pos 0) (pos 4095) n.far 9) _ s b.2 in
+    let a = passed (with_range_fault (count_in n.width LEAST_SIDE MOST_SIDE WIDTH_PLACE)) _ s e in
+    let b = passed (with_range_fault (count_in n.height LEAST_SIDE MOST_SIDE HEIGHT_PLACE)) _ s a.2 in
+    let c = passed (with_range_fault (count_in n.far (pos 0) MOST_FAR FAR_PLACE)) _ s b.2 in
     let q : s ≡ (a.0, b.0, c.0) = cc c.2 in
-    subst⁻¹ Small q (count_most 1 64 a.0 7 n.width a.1, count_most 1 64 b.0 8 n.height b.1, count_most 0 4095 c.0 9 n.far c.1)
+    subst⁻¹ Small q (count_most n.width _ _ _ a.0 a.1, count_most n.height _ _ _ b.0 b.1, count_most n.far _ _ _ c.0 c.1)
 
 -- the view of numbers that all stand, and the fault of the last of the three groups
 module _ (n : ViewNumbers) (o : Point) (w : Way × Way × Way) (eo : Ok o ≡ origin_answer n) (ew : Ok w ≡ ways_answer n) where

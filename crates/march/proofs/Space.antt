@@ -4,7 +4,11 @@ use Rattle.std.proofs.lemmas.Int.{ints}
 use Rattle.lattice.specs.Space.{gap, dist, In}
 use Rattle.lattice.specs.declared.Point.{Point}
 use Rattle.lattice.specs.declared.direction.Direction.{Direction}
+use Rattle.lattice.specs.declared.TheConstants.{LEAST_COORDINATE}
 use Rattle.lattice.proofs.Distance.{in_less}
+use Rattle.march.specs.declared.deep.TheConstants.{WORKING_RANGE}
+use Rattle.march.specs.declared.ray.TheConstants.{MOST_START}
+use Rattle.march.specs.declared.view.TheConstants.{MOST_FAR}
 use Rattle.march.specs.declared.view.View.{View}
 use Rattle.march.specs.View.{along, start, point}
 
@@ -40,15 +44,16 @@ dist_along p d s t le =
     omega arith
 
 -- a ray that starts where a view's rays may start stays in the working range
-pub ray_in : (p : Point) (d : Direction) (t far : ℕ) → In 16510 p → far ≤ 4095 → t ≤ far → In 32767 (along p t d)
-ray_in p d t far hp hf ht = in_less 20605 32767 (along p t d) (omega arith) (in_along p d t 16510 4095 hp (omega arith))
+pub point_in_range : (p : Point) (d : Direction) (t far : ℕ) → In MOST_START p → far ≤ nat_abs MOST_FAR → t ≤ far → In WORKING_RANGE (along p t d)
+point_in_range p d t far hp hf ht =
+    in_less (MOST_START + nat_abs MOST_FAR) WORKING_RANGE (along p t d) (omega arith) (in_along p d t MOST_START (nat_abs MOST_FAR) hp (omega arith))
 
 -- the rays of a view
 pub across_in : (v : View) (i : ℕ) → i < v.width → In 16447 (along v.origin i v.across)
-across_in v i h = in_along v.origin v.across i 16384 63 (v.x_in_range, v.y_in_range, v.z_in_range) (omega (arith, v.width_in_range))
+across_in v i h = in_along v.origin v.across i (nat_abs LEAST_COORDINATE) 63 (v.x_in_range, v.y_in_range, v.z_in_range) (omega (arith, v.width_in_range))
 
-pub start_in : (v : View) (i j : ℕ) → i < v.width → j < v.height → In 16510 (start v i j)
+pub start_in : (v : View) (i j : ℕ) → i < v.width → j < v.height → In MOST_START (start v i j)
 start_in v i j hi hj = in_along (along v.origin i v.across) v.down j 16447 63 (across_in v i hi) (omega (arith, v.height_in_range))
 
-pub point_in : (v : View) (i j t : ℕ) → i < v.width → j < v.height → t ≤ v.far → In 32767 (point v i j t)
-point_in v i j t hi hj ht = ray_in (start v i j) v.ray t v.far (start_in v i j hi hj) v.far_in_range ht
+pub point_in : (v : View) (i j t : ℕ) → i < v.width → j < v.height → t ≤ v.far → In WORKING_RANGE (point v i j t)
+point_in v i j t hi hj ht = point_in_range (start v i j) v.ray t v.far (start_in v i j hi hj) v.far_in_range ht

@@ -1,23 +1,24 @@
--- The numbers of a view, checked one by one in the order of a job: each has its place, and the first that does not stand is the
--- answer.
-use Rattle.std.specs.Prelude.{ℕ, cond, ◌&&◌, ℤ, pos, negsuc, Ok, Err, Result, int_le, unsigned_abs}
-use Rattle.std.specs.Option.{ok_or}
+-- The numbers of a view, checked one by one in the order of a job: each has its place, and the first
+-- that is refused gives the answer.
+use Rattle.std.specs.Prelude.{ℕ, ◌+◌, ℤ, pos, Ok, Result}
+use Rattle.std.specs.Result.{result_map_both}
 use Rattle.lattice.specs.declared.Point.{Point}
+use Rattle.lattice.specs.declared.TheConstants.{LEAST_COORDINATE, MOST_COORDINATE}
 use Rattle.lattice.specs.declared.direction.Direction.{Direction}
+use Rattle.lattice.specs.declared.direction.NoRow.{NoRow}
+use Rattle.lattice.specs.Rows.{Way, way, row_answer}
+use Rattle.refusal.specs.declared.range.OutOfRange.{OutOfRange}
 use Rattle.refusal.specs.Checks.{and_then}
-use Rattle.lattice.specs.Rows.{Way, way, row_of}
+use Rattle.refusal.specs.Ranges.{in_range, count_in}
+use Rattle.march.specs.declared.view.TheConstants.{LEAST_SIDE, MOST_SIDE, MOST_FAR, ORIGIN_PLACE, RAY_PLACE, ACROSS_PLACE, DOWN_PLACE, WIDTH_PLACE, HEIGHT_PLACE, FAR_PLACE}
 use Rattle.march.specs.declared.view.ViewNumbers.{ViewNumbers}
 use Rattle.march.specs.declared.view.View.{View}
 use Rattle.march.specs.declared.fault.ViewFault.{ViewFault}
 use Rattle.march.specs.declared.fault.ViewFault.TheVariants.{Range, Row}
 
-abbrev pub way_in : Result Direction ViewFault → Result Way ViewFault
-way_in (Ok d) = Ok (way d)
-way_in (Err f) = Err f
-
-abbrev pub ways_in : Result (Direction × Direction × Direction) ViewFault → Result (Way × Way × Way) ViewFault
-ways_in (Ok d) = Ok (way d.0, way d.1, way d.2)
-ways_in (Err f) = Err f
+-- three directions by their parts
+abbrev pub three_ways : Direction × Direction × Direction → Way × Way × Way
+three_ways d = (way d.0, way d.1, way d.2)
 
 -- a view by plain numbers
 pub record PlainView : Type 0 where
@@ -52,40 +53,40 @@ blank_view = record {
   far = 0;
 }
 
-abbrev pub plain_in : Result View ViewFault → Result PlainView ViewFault
-plain_in (Ok v) = Ok (plain_view v)
-plain_in (Err f) = Err f
+-- a view, or why there is none, by plain numbers
+abbrev pub plain_view_in : Result View ViewFault → Result PlainView ViewFault
+plain_view_in r = result_map_both plain_view (λ f. f) r
 
--- a number from lo to hi
-unfoldable pub range_answer : (lo hi n : ℤ) (place : ℕ) → Result ℤ ViewFault
-range_answer lo hi n place = cond (int_le lo n && int_le n hi) (Ok n) (Err (Range place))
+-- what a check of a number answers, with its fault as that of a view
+abbrev pub with_range_fault : {A : Type 0} → Result A OutOfRange → Result A ViewFault
+with_range_fault r = result_map_both (λ n. n) (λ e. Range e.place) r
 
--- a part of the origin: -16,384 to 16,383
-abbrev pub part_answer : ℤ → (place : ℕ) → Result ℤ ViewFault
-part_answer n place = range_answer (negsuc 16383) (pos 16383) n place
+abbrev pub with_row_fault : Result Way NoRow → Result Way ViewFault
+with_row_fault r = result_map_both (λ w. w) (λ e. Row e.place) r
 
--- a count from lo to hi
-unfoldable pub count_answer : (lo hi n : ℤ) (place : ℕ) → Result ℕ ViewFault
-count_answer lo hi n place = and_then (range_answer lo hi n place) (λ m. Ok (unsigned_abs m))
-
--- a row of the table of directions that moves
-unfoldable pub row_answer : ℤ → (place : ℕ) → Result Way ViewFault
-row_answer n place = ok_or (row_of n) (Row place)
+-- a part of the origin
+unfoldable pub coordinate_answer : (n : ℤ) (place : ℕ) → Result ℤ ViewFault
+coordinate_answer n place = with_range_fault (in_range n LEAST_COORDINATE MOST_COORDINATE place)
 
 unfoldable pub origin_answer : ViewNumbers → Result Point ViewFault
 origin_answer n =
-    and_then (part_answer n.origin.x 1) (λ x. and_then (part_answer n.origin.y 2) (λ y. and_then (part_answer n.origin.z 3) (λ z.
+    and_then (coordinate_answer n.origin.x ORIGIN_PLACE) (λ x.
+    and_then (coordinate_answer n.origin.y (ORIGIN_PLACE + 1)) (λ y.
+    and_then (coordinate_answer n.origin.z (ORIGIN_PLACE + 2)) (λ z.
     Ok (record { x = x; y = y; z = z }))))
 
 unfoldable pub ways_answer : ViewNumbers → Result (Way × Way × Way) ViewFault
 ways_answer n =
-    and_then (row_answer n.ray 4) (λ ray. and_then (row_answer n.across 5) (λ across. and_then (row_answer n.down 6) (λ down.
+    and_then (with_row_fault (row_answer n.ray RAY_PLACE)) (λ ray.
+    and_then (with_row_fault (row_answer n.across ACROSS_PLACE)) (λ across.
+    and_then (with_row_fault (row_answer n.down DOWN_PLACE)) (λ down.
     Ok (ray, across, down))))
 
 unfoldable pub sizes_answer : ViewNumbers → Result (ℕ × ℕ × ℕ) ViewFault
 sizes_answer n =
-    and_then (count_answer (pos 1) (pos 64) n.width 7) (λ width. and_then (count_answer (pos 1) (pos 64) n.height 8) (λ height.
-    and_then (count_answer (pos 0) (pos 4095) n.far 9) (λ far.
+    and_then (with_range_fault (count_in n.width LEAST_SIDE MOST_SIDE WIDTH_PLACE)) (λ width.
+    and_then (with_range_fault (count_in n.height LEAST_SIDE MOST_SIDE HEIGHT_PLACE)) (λ height.
+    and_then (with_range_fault (count_in n.far (pos 0) MOST_FAR FAR_PLACE)) (λ far.
     Ok (width, height, far))))
 
 abbrev pub view_answer : ViewNumbers → Result PlainView ViewFault

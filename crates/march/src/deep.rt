@@ -1,5 +1,7 @@
 //! Solids that answer on all of the working range.
-ghost use Rattle.std.specs.Prelude.{◌≡◌, ◌<◌, ◌≤◌, MatchResult};
+ghost use Rattle.std.specs.Prelude.{◌≡◌, ◌<◌, MatchResult};
+ghost use Rattle.march.specs.declared.deep.TheConstants.{WORKING_RANGE};
+ghost use Rattle.march.specs.Deep.{IsDeep};
 
 use crate::fault::StepFault;
 use solid::Solid;
@@ -11,13 +13,17 @@ pub const WORKING_RANGE: u32 = 32_767;
 #[derive(Drop)]
 pub struct Deep<'a, S: Solid> {
     pub(crate) solid: &'a S,
-    ghost far_enough: { 32767 ≤ (S.Solid.body solid.now).reach },
+    ghost is_deep: { IsDeep (S.Solid.body solid.now) },
 }
 
 impl<'a, S: Solid> Deep<'a, S> {
-    /// That solid; refused, with 16, where its reach is under 32,767.
+    ghost use Rattle.march.specs.Lent.{lent_solid};
+
+    /// That solid; refused, with 16, where its reach is under the working range.
     pub fn of(solid: &'a S) -> Result<Deep<'a, S>, StepFault>
-        ensures { MatchResult result (λ deep. deep.solid.now ≡ solid.now) (λ _. (S.Solid.body solid.now).reach < 32767) }
+        ensures { MatchResult result
+            (λ deep. lent_solid deep ≡ solid.now)
+            (λ _. (S.Solid.body solid.now).reach < WORKING_RANGE) }
     {
         if solid.reach() < WORKING_RANGE {
             return Err(StepFault::Shallow);

@@ -92,7 +92,7 @@ impl fmt::Display for PixelFault {
 /// Why a step is refused.
 #[derive(Clone, Copy, PartialEq, Eq, Debug)]
 pub enum StepFault {
-    /// 16: the solid's reach is under 32,767, so that it does not answer on all of the working range.
+    /// 16: the solid's reach is under the working range, on all of which it would have to answer.
     Shallow,
 }
 

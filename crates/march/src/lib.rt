@@ -16,4 +16,4 @@ pub use marching::{Marching, Stepped};
 pub use pixel::Pixel;
 pub use ray::Ray;
 pub use settled::{Outcome, Settled};
-pub use view::{MOST_FAR, MOST_PIXELS, MOST_SIDE, View, ViewNumbers};
+pub use view::{LEAST_SIDE, MOST_FAR, MOST_PIXELS, MOST_SIDE, View, ViewNumbers};

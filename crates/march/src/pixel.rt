@@ -1,5 +1,6 @@
 //! A pixel's state.
-ghost use Rattle.std.specs.Prelude.{◌≡◌, ◌≤◌};
+ghost use Rattle.std.specs.Prelude.{◌≡◌, ◌≤◌, unsigned_abs};
+ghost use Rattle.march.specs.declared.view.TheConstants.{MOST_FAR};
 
 use crate::deep::Deep;
 use crate::ray::Ray;
@@ -15,12 +16,14 @@ pub enum Pixel {
 }
 
 impl Pixel {
+    ghost use Rattle.march.specs.Lent.{lent_body};
     ghost use Rattle.march.specs.March.{after_probe, after_step};
-    ghost use Rattle.march.specs.View.{clear_along};
+    ghost use Rattle.march.specs.View.{clear_along, far_of};
 
-    /// What a probe at t, answered by that clearance, leaves of a march with so many probes before it.
+    /// What a probe at t, answered by that clearance, leaves of a march with so many probes before
+    /// it.
     pub(crate) fn after_probe(far: u32, t: u32, probes: u32, clearance: u32) -> Pixel
-        requires { (t ≤ far) × (far ≤ 4095) × (probes ≤ t) }
+        requires { (t ≤ far) × (far ≤ unsigned_abs MOST_FAR) × (probes ≤ t) }
         ensures { result ≡ after_probe far t probes clearance }
     {
         let probes = probes + 1;
@@ -40,7 +43,8 @@ impl Pixel {
     /// range. A settled pixel stays as it is. So does one with a t past the end of the ray, or with
     /// more probes than its t: no march leaves such a pixel.
     pub fn stepped<S: Solid>(self, ray: &Ray, solid: &Deep<'_, S>) -> Pixel
-        ensures { result ≡ after_step (clear_along (S.Solid.body solid.now.solid.now) ray.now) ray.now.far self }
+        ensures { result
+            ≡ after_step (clear_along (lent_body solid.now) ray.now) (far_of ray.now) self }
     {
         match self {
             Pixel::Marching { t, probes } if t <= ray.far && probes <= t => {

@@ -16,18 +16,18 @@ pub struct Settled {
 }
 
 impl Settled {
-    ghost use Rattle.march.specs.Rays.{depth_of};
+    ghost use Rattle.march.specs.Rays.{outcome_of, probes_of, contact_depth};
 
     /// How it settled.
     pub fn outcome(&self) -> Outcome
-        ensures { result ≡ self.now.outcome }
+        ensures { result ≡ outcome_of self.now }
     {
         self.outcome
     }
 
     /// The depth of its first contact; none for a miss.
     pub fn depth(&self) -> Option<u32>
-        ensures { result ≡ depth_of self.now.outcome }
+        ensures { result ≡ contact_depth (outcome_of self.now) }
     {
         match self.outcome {
             Outcome::Hit { depth } => Some(depth),
@@ -37,7 +37,7 @@ impl Settled {
 
     /// How often it has asked.
     pub fn probes(&self) -> u32
-        ensures { result ≡ self.now.probes }
+        ensures { result ≡ probes_of self.now }
     {
         self.probes
     }

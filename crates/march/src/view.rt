@@ -1,5 +1,8 @@
 //! A view: where the rays of a picture start, and where they go.
 ghost use Rattle.std.specs.Prelude.{◌≡◌, ◌*◌, ◌<◌, ◌≤◌, unsigned_abs};
+ghost use Rattle.std.specs.Result.{result_map_both};
+ghost use Rattle.lattice.specs.declared.TheConstants.{LEAST_COORDINATE};
+ghost use Rattle.march.specs.declared.view.TheConstants.{MOST_SIDE, MOST_FAR};
 
 use crate::along::along;
 use crate::fault::{PixelFault, ViewFault};
@@ -7,13 +10,32 @@ use crate::ray::Ray;
 use lattice::{Direction, LEAST_COORDINATE, MOST_COORDINATE, Point};
 use refusal::{count_in, in_range};
 
-/// The sides of a picture, in pixels, and how far its rays go.
+/// The fewest pixels of a side of a picture.
+pub const LEAST_SIDE: i32 = 1;
+
+/// The most pixels of a side.
 pub const MOST_SIDE: i32 = 64;
 
+/// The farthest that a ray goes.
 pub const MOST_FAR: i32 = 4095;
 
 /// The most pixels that a view has.
 pub const MOST_PIXELS: usize = 4096;
+
+/// The places of a view's numbers, as a job has them: the origin's three parts come first.
+const ORIGIN_PLACE: u32 = 1;
+
+const RAY_PLACE: u32 = 4;
+
+const ACROSS_PLACE: u32 = 5;
+
+const DOWN_PLACE: u32 = 6;
+
+const WIDTH_PLACE: u32 = 7;
+
+const HEIGHT_PLACE: u32 = 8;
+
+const FAR_PLACE: u32 = 9;
 
 /// The numbers of a view, as a job has them; any numbers at all.
 #[derive(Clone, Copy)]
@@ -29,70 +51,54 @@ pub struct ViewNumbers {
 }
 
 impl ViewNumbers {
-    ghost use Rattle.march.specs.Checks.{part_answer, count_answer, row_answer, origin_answer, ways_answer, sizes_answer};
-    ghost use Rattle.march.specs.Checks.{way_in, ways_in};
+    ghost use Rattle.march.specs.Checks.{coordinate_answer, origin_answer, sizes_answer};
+    ghost use Rattle.march.specs.Checks.{three_ways, ways_answer};
 
-    /// What is counted, and so is not below 0.
-    #[tactic(auto, unfolding(crate::specs::Checks::count_answer, crate::specs::Checks::range_answer))]
-    fn count(n: i32, least: i32, most: i32, place: u32) -> Result<u32, ViewFault>
-        ensures { result ≡ count_answer least most n place }
-    {
-        Ok(count_in(n, least, most, place)?)
-    }
-
-    /// The direction of the row at a place.
-    #[tactic(auto, unfolding(crate::specs::Checks::row_answer))]
-    fn row(n: i32, place: u32) -> Result<Direction, ViewFault>
-        ensures { way_in result ≡ row_answer n place }
-    {
-        Ok(Direction::of_row(n, place)?)
-    }
-
-    /// A part of the origin, which stands at a place.
-    #[tactic(auto, unfolding(crate::specs::Checks::range_answer))]
-    fn part(n: i32, place: u32) -> Result<i32, ViewFault>
-        ensures { result ≡ part_answer n place }
+    /// A part of the origin.
+    #[tactic(auto, unfolding(crate::specs::Checks::coordinate_answer))]
+    fn coordinate(n: i32, place: u32) -> Result<i32, ViewFault>
+        ensures { result ≡ coordinate_answer n place }
     {
         Ok(in_range(n, LEAST_COORDINATE, MOST_COORDINATE, place)?)
     }
 
-    /// The numbers at places 1 to 3.
+    /// The origin, whose parts stand at places 1 to 3.
     #[tactic(auto, unfolding(crate::specs::Checks::origin_answer))]
-    fn origin_in_range(self) -> Result<Point, ViewFault>
+    fn origin(self) -> Result<Point, ViewFault>
         ensures { result ≡ origin_answer self }
     {
-        let x = ViewNumbers::part(self.origin.x, 1)?;
-        let y = ViewNumbers::part(self.origin.y, 2)?;
-        let z = ViewNumbers::part(self.origin.z, 3)?;
+        let x = ViewNumbers::coordinate(self.origin.x, ORIGIN_PLACE)?;
+        let y = ViewNumbers::coordinate(self.origin.y, ORIGIN_PLACE + 1)?;
+        let z = ViewNumbers::coordinate(self.origin.z, ORIGIN_PLACE + 2)?;
         Ok(Point { x, y, z })
     }
 
-    /// The rows at places 4 to 6.
+    /// The directions of the three rows.
     #[tactic(auto, unfolding(crate::specs::Checks::ways_answer))]
     fn directions(self) -> Result<(Direction, Direction, Direction), ViewFault>
-        ensures { ways_in result ≡ ways_answer self }
+        ensures { result_map_both three_ways (λ f. f) result ≡ ways_answer self }
     {
-        let ray = ViewNumbers::row(self.ray, 4)?;
-        let across = ViewNumbers::row(self.across, 5)?;
-        let down = ViewNumbers::row(self.down, 6)?;
+        let ray = Direction::of_row(self.ray, RAY_PLACE)?;
+        let across = Direction::of_row(self.across, ACROSS_PLACE)?;
+        let down = Direction::of_row(self.down, DOWN_PLACE)?;
         Ok((ray, across, down))
     }
 
-    /// The numbers at places 7 to 9.
+    /// The width, the height and the far.
     #[tactic(auto, unfolding(crate::specs::Checks::sizes_answer))]
     fn sizes(self) -> Result<(u32, u32, u32), ViewFault>
         ensures { result ≡ sizes_answer self }
     {
-        let width = ViewNumbers::count(self.width, 1, MOST_SIDE, 7)?;
-        let height = ViewNumbers::count(self.height, 1, MOST_SIDE, 8)?;
-        let far = ViewNumbers::count(self.far, 0, MOST_FAR, 9)?;
+        let width = count_in(self.width, LEAST_SIDE, MOST_SIDE, WIDTH_PLACE)?;
+        let height = count_in(self.height, LEAST_SIDE, MOST_SIDE, HEIGHT_PLACE)?;
+        let far = count_in(self.far, 0, MOST_FAR, FAR_PLACE)?;
         Ok((width, height, far))
     }
 }
 
 /// A view whose numbers are in range, or the blank one: no other is made. Pixel (i, j) starts at
-/// origin + i across + j down; its ray is the points start + t ray, for t = 0..far. Every such point
-/// lies in the working range.
+/// origin + i across + j down; its ray is the points start + t ray, for t = 0..far. Every such
+/// point lies in the working range.
 #[derive(Clone, Copy)]
 pub struct View {
     origin: Point,
@@ -102,23 +108,24 @@ pub struct View {
     width: u32,
     height: u32,
     far: u32,
-    ghost x_in_range: { unsigned_abs origin.x ≤ 16384 },
-    ghost y_in_range: { unsigned_abs origin.y ≤ 16384 },
-    ghost z_in_range: { unsigned_abs origin.z ≤ 16384 },
-    ghost width_in_range: { width ≤ 64 },
-    ghost height_in_range: { height ≤ 64 },
-    ghost far_in_range: { far ≤ 4095 },
+    ghost x_in_range: { unsigned_abs origin.x ≤ unsigned_abs LEAST_COORDINATE },
+    ghost y_in_range: { unsigned_abs origin.y ≤ unsigned_abs LEAST_COORDINATE },
+    ghost z_in_range: { unsigned_abs origin.z ≤ unsigned_abs LEAST_COORDINATE },
+    ghost width_in_range: { width ≤ unsigned_abs MOST_SIDE },
+    ghost height_in_range: { height ≤ unsigned_abs MOST_SIDE },
+    ghost far_in_range: { far ≤ unsigned_abs MOST_FAR },
 }
 
 impl View {
-    ghost use Rattle.march.specs.Checks.{view_answer, plain_view, plain_in, blank_view};
-    ghost use Rattle.march.specs.View.{start, ray_parts_in, ray_parts_answer, place_answer, has_pixel};
+    ghost use Rattle.march.specs.Checks.{view_answer, plain_view, plain_view_in, blank_view};
+    ghost use Rattle.march.specs.View.{start, has_pixel, place_answer};
+    ghost use Rattle.march.specs.View.{ray_parts_in, ray_parts_answer};
 
     /// The view of these numbers, or the first fault among them.
     pub fn new(numbers: ViewNumbers) -> Result<View, ViewFault>
-        ensures { plain_in result ≡ view_answer numbers }
+        ensures { plain_view_in result ≡ view_answer numbers }
     {
-        let origin = numbers.origin_in_range()?;
+        let origin = numbers.origin()?;
         let (ray, across, down) = numbers.directions()?;
         let (width, height, far) = numbers.sizes()?;
         Ok(View {
@@ -149,28 +156,28 @@ impl View {
 
     /// How many pixels a row has.
     pub fn width(&self) -> u32
-        ensures { result ≡ self.now.width }
+        ensures { result ≡ (plain_view self.now).width }
     {
         self.width
     }
 
     /// How many rows of pixels it has.
     pub fn height(&self) -> u32
-        ensures { result ≡ self.now.height }
+        ensures { result ≡ (plain_view self.now).height }
     {
         self.height
     }
 
     /// How far its rays go.
     pub fn far(&self) -> u32
-        ensures { result ≡ self.now.far }
+        ensures { result ≡ (plain_view self.now).far }
     {
         self.far
     }
 
     /// How many pixels the view has.
     pub fn pixels(&self) -> usize
-        ensures { result ≡ self.now.width * self.now.height }
+        ensures { result ≡ (plain_view self.now).width * (plain_view self.now).height }
     {
         self.width as usize * self.height as usize
     }

@@ -5,7 +5,7 @@ use Rattle.std.proofs.lemmas.Int.{ints, clamps}
 use Rattle.std.proofs.lemmas.Bool.{both_ways, cases_lt}
 use Rattle.lattice.specs.Space.{gap}
 use Rattle.lattice.specs.declared.Point.{Point}
-use Rattle.piles.specs.Leaves.{least, fits, ball, above, beside, block, last_column, off_bounding_block}
+use Rattle.piles.specs.Leaves.{least, fits, ball, above, beside, block, BoxHolds, last_column, off_bounding_block}
 use Rattle.piles.proofs.Least.{least_holds}
 use Rattle.piles.proofs.Axes.{rise_is}
 use Rattle.piles.proofs.Balls.{fits_far, fits_last}
@@ -25,7 +25,7 @@ module _ (m p : Point) (r a b c : ℕ) (ea : a ≡ gap p.x m.x) (eb : b ≡ gap 
   pub ball_at_least : max a (max b c) - r ≤ (ball m r).clear p
   ball_at_least = omega (arith, fits_at_least r a b c, ball_clear)
 
--- how far a number lies outside lo..hi, told by a difference that is below 0 inside
+-- how far a number lies outside lo..hi, by a difference that is below 0 inside
 axis_clear : (lo hi a x : ℤ) → x ≡ int_max (lo -ℤ a) (a -ℤ hi) → nat_abs (int_max x (pos 0)) ≡ beside lo hi a
 axis_clear lo hi a x e = omega (arith, ints, clamps, rise_is (lo -ℤ a), rise_is (a -ℤ hi))
 
@@ -45,15 +45,11 @@ off_block_is w d top p x y z ex ey ez =
     risen : nat_abs (int_max z (pos 0)) ≡ above p.z top
     risen = omega (arith, ints, clamps, rise_is (p.z -ℤ top))
 
--- the box from low to high holds the box from lo to hi
-abbrev pub IsHeld : (low high lo hi : Point) → Type 0
-IsHeld low high lo hi = (low.x ≤ℤ lo.x) × (low.y ≤ℤ lo.y) × (low.z ≤ℤ lo.z) × (hi.x ≤ℤ high.x) × (hi.y ≤ℤ high.y) × (hi.z ≤ℤ high.z)
-
 axis_held : (low high lo hi a : ℤ) → low ≤ℤ lo → hi ≤ℤ high → beside low high a ≤ beside lo hi a
 axis_held low high lo hi a l h = omega (arith, ints, rise_is (lo -ℤ a), rise_is (a -ℤ hi), rise_is (low -ℤ a), rise_is (a -ℤ high))
 
 -- a box that another holds is no nearer than that one
-pub held_no_nearer : (low high lo hi p : Point) → IsHeld low high lo hi → (block low high).clear p ≤ (block lo hi).clear p
+pub held_no_nearer : (low high lo hi p : Point) → BoxHolds low high lo hi → (block low high).clear p ≤ (block lo hi).clear p
 held_no_nearer low high lo hi p h =
     omega (arith, axis_held low.x high.x lo.x hi.x p.x h.0 h.3, axis_held low.y high.y lo.y hi.y p.y h.1 h.4, axis_held low.z high.z lo.z hi.z p.z h.2 h.5)
 

@@ -1,5 +1,5 @@
 -- Each layer gives a lawful body from lawful bodies.
-use Rattle.std.proofs.Common.{◌≡◌, ℕ, suc, ◌-◌, ◌<◌, ◌≤◌, min, true, ◌&&◌, ◌||◌, leb, ℤ, ◌+ℤ◌, ◌-ℤ◌, nat_abs, sym, ap, ◌∙◌, ⊎_elim, arith}
+use Rattle.std.proofs.Common.{◌≡◌, ℕ, suc, ◌-◌, ◌<◌, ◌≤◌, min, true, leb, ℤ, ◌+ℤ◌, ◌-ℤ◌, nat_abs, sym, ap, ◌∙◌, ⊎_elim, arith}
 use borrow.Author.Differences.{ints}
 use Rattle.std.proofs.lemmas.Bool.{false≢true, leb-true, cases_lt, and_parts, and_from, or_cases, or_left, or_right, cond_both}
 use Rattle.lattice.specs.Space.{dist, norm, In, back, onward}
@@ -10,51 +10,64 @@ use Rattle.solid.specs.Body.{Body, Lawful}
 use Rattle.piles.specs.Layers.{unite, meet, translate, shift, thicken_exact, thicken, cap}
 use Rattle.piles.proofs.Near.{near_found, near_there}
 
-in_left : (r s : ℕ) (p : Point) → In (min r s) p → In r p
-in_left r s p i = in_less (min r s) r p (omega arith) i
+module _ (a b : Body) where
+  -- within the smaller reach, both can be asked
+  in_left : (p : Point) → In (min a.reach b.reach) p → In a.reach p
+  in_left p i = in_less (min a.reach b.reach) a.reach p (omega arith) i
 
-in_right : (r s : ℕ) (p : Point) → In (min r s) p → In s p
-in_right r s p i = in_less (min r s) s p (omega arith) i
+  in_right : (p : Point) → In (min a.reach b.reach) p → In b.reach p
+  in_right p i = in_less (min a.reach b.reach) b.reach p (omega arith) i
 
-pub unite_lawful : (a b : Body) → Lawful a → Lawful b → Lawful (unite a b)
-unite_lawful a b la lb = record {
-  near_enough = omega (arith, la.near_enough);
-  small = λ p i. omega (arith, la.small p (l p i));
-  inside = λ p i m. ⊎_elim (λ e. omega (arith, la.inside p (l p i) e)) (λ e. omega (arith, lb.inside p (r p i) e)) (or_cases (a.member p) (b.member p) m);
-  outside = λ p i z. ⊎_elim (λ h. or_left (a.member p) (b.member p) (la.outside p (l p i) (omega arith))) (λ h. or_right (a.member p) (b.member p) (lb.outside p (r p i) (omega arith))) (cases_lt (a.clear p) (suc (b.clear p)));
-  none_nearer = λ p q i m. ⊎_elim (λ e. omega (arith, la.none_nearer p q (l p i) e)) (λ e. omega (arith, lb.none_nearer p q (r p i) e)) (or_cases (a.member q) (b.member q) m);
-  slope = λ p q i j. omega (arith, la.slope p q (l p i) (l q j), lb.slope p q (r p i) (r q j));
-  touched = λ x p i. ⊎_elim (λ h. near_a x p i h) (λ h. near_b x p i h) (cases_lt (a.clear p) (suc (b.clear p)));
-}
-  where
-    l : (p : Point) → In (min a.reach b.reach) p → In a.reach p
-    l p i = in_left a.reach b.reach p i
+  module _ (la : Lawful a) (lb : Lawful b) where
+    pub unite_lawful : Lawful (unite a b)
+    unite_lawful = record {
+      near_enough = omega (arith, la.near_enough);
+      small = λ p i. omega (arith, la.small p (in_left p i));
+      inside = λ p i m. either p m
+          (λ e. omega (arith, la.inside p (in_left p i) e))
+          (λ e. omega (arith, lb.inside p (in_right p i) e));
+      outside = λ p i z. nearer p
+          (λ h. or_left (a.member p) (b.member p) (la.outside p (in_left p i) (omega arith)))
+          (λ h. or_right (a.member p) (b.member p) (lb.outside p (in_right p i) (omega arith)));
+      none_nearer = λ p q i m. either q m
+          (λ e. omega (arith, la.none_nearer p q (in_left p i) e))
+          (λ e. omega (arith, lb.none_nearer p q (in_right p i) e));
+      slope = λ p q i j. omega (arith, la.slope p q (in_left p i) (in_left q j), lb.slope p q (in_right p i) (in_right q j));
+      touched = λ x p i.
+          let y = and_parts a.exact b.exact x in
+          nearer p
+          (λ h. nearest p a (in_left p i) la y.0 (λ q. or_left (a.member q) (b.member q)) (omega arith))
+          (λ h. nearest p b (in_right p i) lb y.1 (λ q. or_right (a.member q) (b.member q)) (omega arith));
+    }
+      where
+        -- a member of the union is one of a or of b
+        either : {P : Type 0} (p : Point) → (unite a b).member p ≡ true → (a.member p ≡ true → P) → (b.member p ≡ true → P) → P
+        either p m f g = ⊎_elim f g (or_cases (a.member p) (b.member p) m)
 
-    r : (p : Point) → In (min a.reach b.reach) p → In b.reach p
-    r p i = in_right a.reach b.reach p i
+        -- one of the two has the smaller clearance
+        nearer : {P : Type 0} (p : Point) → (a.clear p < suc (b.clear p) → P) → (suc (b.clear p) ≤ a.clear p → P) → P
+        nearer p f g = ⊎_elim f g (cases_lt (a.clear p) (suc (b.clear p)))
 
-    near_a : (a.exact && b.exact) ≡ true → (p : Point) → In (min a.reach b.reach) p → a.clear p < suc (b.clear p) → (q : Point) × (((a.member q || b.member q) ≡ true) × (dist p q ≡ min (a.clear p) (b.clear p)))
-    near_a x p i h = let t = la.touched (and_parts a.exact b.exact x).0 p (l p i) in (t.0, (or_left (a.member t.0) (b.member t.0) t.1.0, omega (arith, t.1.1)))
+        -- the nearest member of that one is the nearest of the union
+        nearest : (p : Point) (c : Body) → In c.reach p → Lawful c → c.exact ≡ true
+            → ((q : Point) → c.member q ≡ true → (unite a b).member q ≡ true) → c.clear p ≡ (unite a b).clear p
+            → (q : Point) × (((unite a b).member q ≡ true) × (dist p q ≡ (unite a b).clear p))
+        nearest p c i l x f e = let t = l.touched x p i in (t.0, (f t.0 t.1.0, t.1.1 ∙ e))
 
-    near_b : (a.exact && b.exact) ≡ true → (p : Point) → In (min a.reach b.reach) p → suc (b.clear p) ≤ a.clear p → (q : Point) × (((a.member q || b.member q) ≡ true) × (dist p q ≡ min (a.clear p) (b.clear p)))
-    near_b x p i h = let t = lb.touched (and_parts a.exact b.exact x).1 p (r p i) in (t.0, (or_right (a.member t.0) (b.member t.0) t.1.0, omega (arith, t.1.1)))
-
-pub meet_lawful : (a b : Body) → Lawful a → Lawful b → Lawful (meet a b)
-meet_lawful a b la lb = record {
-  near_enough = omega (arith, la.near_enough);
-  small = λ p i. omega (arith, la.small p (l p i), lb.small p (r p i));
-  inside = λ p i m. let e = and_parts (a.member p) (b.member p) m in omega (arith, la.inside p (l p i) e.0, lb.inside p (r p i) e.1);
-  outside = λ p i z. and_from (a.member p) (b.member p) (la.outside p (l p i) (omega arith)) (lb.outside p (r p i) (omega arith));
-  none_nearer = λ p q i m. let e = and_parts (a.member q) (b.member q) m in omega (arith, la.none_nearer p q (l p i) e.0, lb.none_nearer p q (r p i) e.1);
-  slope = λ p q i j. omega (arith, la.slope p q (l p i) (l q j), lb.slope p q (r p i) (r q j));
-  touched = λ x. absurd (false≢true x);
-}
-  where
-    l : (p : Point) → In (min a.reach b.reach) p → In a.reach p
-    l p i = in_left a.reach b.reach p i
-
-    r : (p : Point) → In (min a.reach b.reach) p → In b.reach p
-    r p i = in_right a.reach b.reach p i
+    pub meet_lawful : Lawful (meet a b)
+    meet_lawful = record {
+      near_enough = omega (arith, la.near_enough);
+      small = λ p i. omega (arith, la.small p (in_left p i), lb.small p (in_right p i));
+      inside = λ p i m.
+          let e = and_parts (a.member p) (b.member p) m in
+          omega (arith, la.inside p (in_left p i) e.0, lb.inside p (in_right p i) e.1);
+      outside = λ p i z. and_from (a.member p) (b.member p) (la.outside p (in_left p i) (omega arith)) (lb.outside p (in_right p i) (omega arith));
+      none_nearer = λ p q i m.
+          let e = and_parts (a.member q) (b.member q) m in
+          omega (arith, la.none_nearer p q (in_left p i) e.0, lb.none_nearer p q (in_right p i) e.1);
+      slope = λ p q i j. omega (arith, la.slope p q (in_left p i) (in_left q j), lb.slope p q (in_right p i) (in_right q j));
+      touched = λ x. absurd (false≢true x);
+    }
 
 -- back from p by v stays in a's reach
 minus_in : (r n : ℕ) (a v : ℤ) → n ≤ r → nat_abs v ≤ n → nat_abs a ≤ r - n → nat_abs (a -ℤ v) ≤ r
@@ -106,8 +119,8 @@ thick_lawful h a x la = record {
 pub thicken_lawful : (h : ℕ) (a : Body) → Lawful a → Lawful (thicken h a)
 thicken_lawful h a la = cond_both a.exact (thicken_exact h a) a Lawful (λ e. thick_lawful h a e la) (λ _. la)
 
-pub capped_lawful : (s : ℕ) (a : Body) → 1 ≤ s → Lawful a → Lawful (cap s a)
-capped_lawful s a h la = record {
+pub cap_lawful : (s : ℕ) (a : Body) → 1 ≤ s → Lawful a → Lawful (cap s a)
+cap_lawful s a h la = record {
   near_enough = la.near_enough;
   small = λ p i. omega (arith, la.small p i);
   inside = λ p i m. omega (arith, la.inside p i m);

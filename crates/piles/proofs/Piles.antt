@@ -9,7 +9,7 @@ use Rattle.piles.specs.Layers.{translate, shift, near, thicken_exact, thicken}
 use Rattle.piles.specs.Pile.{Pile}
 use Rattle.piles.specs.Stands.{PilesStand}
 use Rattle.piles.specs.Pile.Pile.{lawful, united, met, shifted, thickened, cut}
-use Rattle.piles.proofs.Kept.{unite_lawful, meet_lawful, shift_lawful, thicken_lawful, capped_lawful}
+use Rattle.piles.proofs.Kept.{unite_lawful, meet_lawful, shift_lawful, thicken_lawful, cap_lawful}
 
 pub pile_lawful : {M : Point → Bool} {e : Bool} {b : Body} → Pile M e b → Lawful b
 pile_lawful (lawful b l) = l
@@ -17,7 +17,7 @@ pile_lawful (united {a = a} {b = b} s t) = unite_lawful a b (pile_lawful s) (pil
 pile_lawful (met {a = a} {b = b} s t) = meet_lawful a b (pile_lawful s) (pile_lawful t)
 pile_lawful (shifted {a = a} v _ h s) = shift_lawful v a (pile_lawful s)
 pile_lawful (thickened {a = a} h _ s) = thicken_lawful h a (pile_lawful s)
-pile_lawful (cut {a = a} s h _ t) = capped_lawful s a h (pile_lawful t)
+pile_lawful (cut {a = a} s h _ t) = cap_lawful s a h (pile_lawful t)
 
 pub shift_is : (v : Point) (a : Body) → norm v ≤ a.reach → shift v a ≡ translate v a
 shift_is v a h = cond-true (leb (norm v) a.reach) (translate v a) a (le-leb (norm v) a.reach h)

@@ -2,12 +2,9 @@
 //! The definitions stand in `specs/`, the laws in `proofs/`; the crates above cite both.
 #![tactic(auto)]
 
-ghost use Rattle.std.specs.Prelude.{◌≡◌, ℕ, Bool, true, Ok, Err};
-ghost use Rattle.lattice.specs.Space.{within};
-ghost use Rattle.lattice.specs.declared.Point.{Point as Place};
+ghost use Rattle.std.specs.Prelude.{◌≡◌};
 ghost use Rattle.solid.specs.Answer.{membership};
-ghost use Rattle.piles.specs.Pile.{Pile};
-ghost use Rattle.piles.specs.Stands.{PilesStand};
+ghost use Rattle.piles.specs.Stands.{AnswersAlgebra, PilesStand};
 
 use lattice::Point;
 use solid::{QuestionFault, Solid};
@@ -25,8 +22,7 @@ pub const LEAST_CAP: i32 = 1;
 /// and every pile is lawful.
 pub fn is_member<S: Solid>(solid: &S, p: Point) -> Result<bool, QuestionFault>
     ensures value { result ≡ membership (S.Solid.body solid.now) p }
-    ensures algebra { (M : Place → Bool) (e : Bool) → Pile M e (S.Solid.body solid.now)
-        → within (S.Solid.body solid.now).reach p ≡ true → result ≡ Ok (M p) }
+    ensures algebra { AnswersAlgebra (S.Solid.body solid.now) p result }
     ensures piles { PilesStand }
 {
     let c = solid.clearance(p)?;

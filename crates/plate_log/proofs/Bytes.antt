@@ -1,16 +1,17 @@
 -- The bytes of an image, one word at a time: as they are put, and as they are read back.
-use Rattle.std.proofs.Common.{◌≡◌, ℕ, zero, suc, ◌+◌, ◌*◌, ◌/◌, ◌%◌, ◌<◌, ◌≤◌, true, false, eqb, List, [], ◌∷◌, ◌++◌, length, get_or, take, drop, Some, sym, refl, ap, ◌∙◌, append_assoc, arith, length-append}
+use Rattle.std.proofs.Common.{◌≡◌, ℕ, zero, suc, ◌+◌, ◌*◌, ◌/◌, ◌%◌, ◌<◌, ◌≤◌, true, false, ltb, List, [], ◌∷◌, ◌++◌, length, get_or, take, drop, Some, sym, refl, ap, ◌∙◌, append_assoc, arith, length-append}
 use Rattle.std.proofs.lemmas.List.{take_more, take_at, drop_at, drop-drop, take_all, length-take-le}
-use Rattle.std.proofs.lemmas.Bool.{cond-true, cond-false, both_ways, leb-true, eq-eqb, ne_eqb}
+use Rattle.std.proofs.lemmas.Bool.{cond-true, both_ways, leb-true, lt-ltb}
 use Rattle.march.specs.declared.pixel.Pixel.{Pixel}
 use Rattle.march.specs.declared.pixel.Pixel.TheVariants.{Marching, Hit, Miss}
 use Rattle.march.specs.declared.view.View.{View}
 use Rattle.march.specs.March.{new_pixel, is_sane, marches}
 use Rattle.words.specs.Words.{four_bytes, image_word, number_word}
+use Rattle.words.specs.Reading.{kind_and_rest}
 use Rattle.words.specs.Writing.{with_word}
 use Rattle.plate_log.specs.Sweep.{past_the_end}
-use Rattle.plate_log.specs.Log.{pixel_word, pixel_bytes, image}
-use Rattle.plate_log.specs.Lines.{word_in, pixel_of_word}
+use Rattle.plate_log.specs.Image.{pixel_word, pixel_bytes, image}
+use Rattle.plate_log.specs.Lines.{word_in, pixel_of_kind, pixel_of_word}
 use Rattle.plate_log.proofs.Sanity.{hit_parts}
 
 -- as they are put
@@ -115,14 +116,15 @@ state_back far (Marching t n) h e m = absurd (both_ways true m refl)
 state_back far (Hit d n) h e m =
     let b = hit_parts far d n e in
     let w : ℕ = pixel_word (Hit d n) in
-    let kind : w / 268435456 ≡ 11 = omega arith in
-    let depth : w / 65536 % 4096 ≡ d = omega arith in
-    let rest : w % 65536 ≡ n = omega arith in
-    cond-true (eqb (w / 268435456) 11) _ _ (eq-eqb (w / 268435456) 11 kind) ∙ ap (λ (x : ℕ). Some (Hit x (w % 65536))) depth ∙ ap (λ (x : ℕ). Some (Hit d x)) rest
+    let kind : (kind_and_rest w).0 ≡ 11 = omega arith in
+    let depth : (kind_and_rest w).1 / 65536 ≡ d = omega arith in
+    let rest : (kind_and_rest w).1 % 65536 ≡ n = omega arith in
+    ap (λ (k : ℕ). pixel_of_kind k (kind_and_rest w).1) kind
+    ∙ ap (λ (x : ℕ). Some (Hit x ((kind_and_rest w).1 % 65536))) depth ∙ ap (λ (x : ℕ). Some (Hit d x)) rest
 state_back far (Miss n) h e m =
     let b = leb-true n (far + 1) e in
     let w : ℕ = pixel_word (Miss n) in
-    let kind : w / 65536 ≡ 49152 = omega arith in
-    let rest : w % 65536 ≡ n = omega arith in
-    cond-false (eqb (w / 268435456) 11) _ _ (ne_eqb (w / 268435456) 11 (λ x. omega arith))
-    ∙ cond-true (eqb (w / 65536) 49152) _ _ (eq-eqb (w / 65536) 49152 kind) ∙ ap (λ (x : ℕ). Some (Miss x)) rest
+    let kind : (kind_and_rest w).0 ≡ 12 = omega arith in
+    let rest : (kind_and_rest w).1 ≡ n = omega arith in
+    ap (λ (k : ℕ). pixel_of_kind k (kind_and_rest w).1) kind ∙ ap (pixel_of_kind 12) rest
+    ∙ cond-true (ltb n 65536) _ _ (lt-ltb n 65536 (omega arith))

@@ -10,11 +10,15 @@ use Rattle.march.specs.declared.pixel.Pixel.{Pixel}
 use Rattle.march.specs.declared.view.View.{View}
 use Rattle.march.specs.declared.fault.PixelFault.{PixelFault}
 use Rattle.march.specs.declared.fault.PixelFault.TheVariants.{NoPixel}
-use Rattle.march.specs.View.{place_answer}
+use Rattle.march.specs.View.{place_answer, has_pixel}
 use Rattle.march.specs.March.{new_pixel, settle, marches}
+use Rattle.march.specs.Deep.{is_deep}
 use Rattle.plate_log.specs.declared.fault.PlateFault.TheVariants.{StillMarching, NoRoom}
 use Rattle.plate_log.specs.Sweep.{past_the_end, sweep, count_marching, are_sane}
-use Rattle.plate_log.specs.Log.{Call, Answer, sweeping, touching, reading, writing, counted, read_as, wrote, refused, line_of, line_on_records, bytes_after, write_line, image, clear_on_ray, clear_at, area, place_of, has_pixel, is_deep, pixels_of}
+use Rattle.plate_log.specs.Image.{image}
+use Rattle.plate_log.specs.Log.{Call, Answer, sweeping, touching, reading, writing, counted, read_as, wrote, refused, line_of, clear_on_ray, clear_at, area, place_of}
+use Rattle.plate_log.specs.Records.{line_on_records, pixels_of}
+use Rattle.plate_log.specs.Answers.{bytes_after, write_on_bytes}
 use Rattle.plate_log.specs.Law.{Promise}
 use Rattle.plate_log.proofs.Lift.{did}
 use Rattle.plate_log.proofs.Sums.{swept_length, line_length}
@@ -116,21 +120,21 @@ touch_done v rs q i j k b budget spent left room p h e f m =
     ∙ ap (λ (k : ℕ). let s = settle (clear_on_ray v b (place_of v i j)) v.far budget (get_or ps k past_the_end) in (counted (budget - s.1) (cond (marches s.0) 1 0), set ps k s.0 ++ drop (area v) rs)) p.is
     ∙ sym (ap (λ (l : Answer × List Pixel). (l.0, l.1 ++ drop (area v) rs)) (cond-true (has_pixel v i j) _ _ p.has_it ∙ cond-true (is_deep b) _ _ (le-leb 32767 b.reach h)))
 
--- write: the answer, with what is left in the bytes
+-- write: the answer, with what is left in the bytes, and the promise
 abbrev Wrote : View → List Pixel → List ℕ → Answer → List ℕ → Type 0
-Wrote v rs old a out = (◌≡◌ {A = Answer × List ℕ} (a, out) (write_line v rs old)) × (◌≡◌ {A = Answer × List Pixel} (a, rs) (line_on_records v rs (writing (length old))))
+Wrote v rs old a out = (◌≡◌ {A = Answer × List ℕ} (a, out) (write_on_bytes v rs old)) × Promise v rs rs (writing (length old))
 
-wrote_by : (v : View) (rs : List Pixel) (old : List ℕ) (a : Answer) (out : List ℕ) → line_of v (pixels_of v rs) (writing (length old)) ≡ (a, pixels_of v rs) → out ≡ bytes_after a old → Wrote v rs old a out
-wrote_by v rs old a out e f = (
+wrote_by : (v : View) (rs : List Pixel) (old : List ℕ) (a : Answer) (out : List ℕ) → area v ≤ length rs → line_of v (pixels_of v rs) (writing (length old)) ≡ (a, pixels_of v rs) → out ≡ bytes_after a old → Wrote v rs old a out
+wrote_by v rs old a out room e f = (
   ap (λ (bs : List ℕ). (a, bs)) f ∙ ap (λ (l : Answer × List Pixel). (l.0, bytes_after l.0 old)) (sym e),
-  quiet v rs (writing (length old)) a e,
+  promise v rs rs (writing (length old)) a room (quiet v rs (writing (length old)) a e),
 )
 
-module _ (v : View) (rs ps : List Pixel) (old : List ℕ) (is : ps ≡ pixels_of v rs) where
+module _ (v : View) (rs ps : List Pixel) (old : List ℕ) (is : ps ≡ pixels_of v rs) (room : area v ≤ length rs) where
   pub write_early : 0 < count_marching ps → Wrote v rs old (refused StillMarching) old
   write_early h =
       let some : 0 < count_marching (pixels_of v rs) = omega (arith, ap count_marching is) in
-      wrote_by v rs old (refused StillMarching) old (cond-false (eqb (count_marching (pixels_of v rs)) 0) _ _ (ne_eqb (count_marching (pixels_of v rs)) 0 (λ e. omega arith))) refl
+      wrote_by v rs old (refused StillMarching) old room (cond-false (eqb (count_marching (pixels_of v rs)) 0) _ _ (ne_eqb (count_marching (pixels_of v rs)) 0 (λ e. omega arith))) refl
 
   none : count_marching ps ≡ 0 → eqb (count_marching (pixels_of v rs)) 0 ≡ true
   none e = eq-eqb (count_marching (pixels_of v rs)) 0 (sym (ap count_marching is) ∙ e)
@@ -138,7 +142,7 @@ module _ (v : View) (rs ps : List Pixel) (old : List ℕ) (is : ps ≡ pixels_of
   pub write_tight : count_marching ps ≡ 0 → length old < 4 * (2 + length ps) → Wrote v rs old (refused NoRoom) old
   write_tight e h =
       let size = 4 * (2 + length (pixels_of v rs)) in
-      wrote_by v rs old (refused NoRoom) old
+      wrote_by v rs old (refused NoRoom) old room
       (cond-true (eqb (count_marching (pixels_of v rs)) 0) _ _ (none e) ∙ cond-false (leb size (length old)) _ _ (lt-leb size (length old) (omega (arith, ap length is)))) refl
 
   pub write_done : (out : List ℕ) → count_marching ps ≡ 0 → 4 * (2 + length ps) ≤ length old → out ≡ image v ps ++ drop (4 * (2 + length ps)) old
@@ -147,7 +151,7 @@ module _ (v : View) (rs ps : List Pixel) (old : List ℕ) (is : ps ≡ pixels_of
       let n = 4 * (2 + length ps) in
       let size = 4 * (2 + length (pixels_of v rs)) in
       let front : take n out ≡ image v ps = ap (take n) f ∙ take_at (image v ps) (drop n old) n (length_image v ps) in
-      wrote_by v rs old (wrote n (take n out)) out
+      wrote_by v rs old (wrote n (take n out)) out room
       (cond-true (eqb (count_marching (pixels_of v rs)) 0) _ _ (none e) ∙ cond-true (leb size (length old)) _ _ (le-leb size (length old) (omega (arith, ap length is)))
       ∙ ap (λ (qs : List Pixel). (wrote (4 * (2 + length qs)) (image v qs), pixels_of v rs)) (sym is) ∙ ap (λ (bs : List ℕ). (wrote n bs, pixels_of v rs)) (sym front))
       (f ∙ ap (λ (bs : List ℕ). bs ++ drop n old) (sym front))
@@ -161,12 +165,12 @@ new_room n rs old h e =
 pub new_front : (n : ℕ) (rs old : List Pixel) → rs ≡ replicate n new_pixel ++ drop n old → take n rs ≡ replicate n new_pixel
 new_front n rs old e = ap (take n) e ∙ take_at (replicate n new_pixel) (drop n old) n (length-replicate n new_pixel)
 
-pub new_sound : (far n : ℕ) (rs old : List Pixel) → rs ≡ replicate n new_pixel ++ drop n old → are_sane far (take n rs) ≡ true
-new_sound far n rs old e = ap (are_sane far) (new_front n rs old e) ∙ sane_fresh far n
+pub new_front_sane : (far n : ℕ) (rs old : List Pixel) → rs ≡ replicate n new_pixel ++ drop n old → are_sane far (take n rs) ≡ true
+new_front_sane far n rs old e = ap (are_sane far) (new_front n rs old e) ∙ sane_fresh far n
 
 -- what a plate always has, after its pixels were written
 pub front_room : (v : View) (n : ℕ) (ps rs : List Pixel) → n ≡ area v → length ps ≡ n → area v ≤ length (ps ++ drop n rs)
 front_room v n ps rs all e = omega (arith, length-append ps (drop n rs))
 
-pub front_sound : (v : View) (n : ℕ) (ps rs : List Pixel) → n ≡ area v → length ps ≡ n → are_sane v.far ps ≡ true → are_sane v.far (take (area v) (ps ++ drop n rs)) ≡ true
-front_sound v n ps rs all e s = ap (are_sane v.far) (take_at ps (drop n rs) (area v) (e ∙ all)) ∙ s
+pub front_sane : (v : View) (n : ℕ) (ps rs : List Pixel) → n ≡ area v → length ps ≡ n → are_sane v.far ps ≡ true → are_sane v.far (take (area v) (ps ++ drop n rs)) ≡ true
+front_sane v n ps rs all e s = ap (are_sane v.far) (take_at ps (drop n rs) (area v) (e ∙ all)) ∙ s

@@ -5,7 +5,7 @@ pub mod Sanity
 pub mod Bytes
 pub mod Steps
 pub mod Lines
-pub mod Worked
+pub mod ExampleLog
 pub mod Upshot
 pub mod Onward
 pub mod Calls

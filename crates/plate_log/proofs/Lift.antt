@@ -1,15 +1,17 @@
 -- From one pixel's steps to whole logs.
-use Rattle.std.proofs.Common.{◌≡◌, ℕ, zero, suc, ◌+◌, ◌-◌, ◌*◌, ◌≤◌, cond, eqb, leb, List, [], ◌∷◌, ◌++◌, length, get_or, set, sym, refl, ap, subst, arith}
+use Rattle.std.proofs.Common.{◌≡◌, ℕ, zero, suc, ◌+◌, ◌-◌, ◌*◌, ◌≤◌, true, cond, eqb, leb, List, [], ◌∷◌, ◌++◌, length, get_or, set, sym, refl, ap, subst, arith}
 use Rattle.std.proofs.lemmas.Bool.{cond_both, leb-true}
 use Rattle.solid.specs.Body.{Body}
 use Rattle.march.specs.declared.pixel.Pixel.{Pixel}
 use Rattle.march.specs.declared.pixel.Pixel.TheVariants.{Marching}
 use Rattle.march.specs.declared.view.View.{View}
-use Rattle.march.specs.March.{after_probe, settle, marches}
-use Rattle.march.proofs.RaySteps.{settled_keeps}
+use Rattle.march.specs.March.{after_probe, settle, marches, is_sane}
+use Rattle.march.specs.Deep.{is_deep}
+use Rattle.march.specs.View.{has_pixel}
+use Rattle.march.proofs.RaySteps.{settled_keeps, sane_on}
 use Rattle.plate_log.specs.Sweep.{past_the_end, sweep, count_marching}
-use Rattle.plate_log.specs.Log.{Call, Line, Answer, sweeping, touching, reading, writing, counted, read_as, wrote, refused, line_of, play, pixels_after_lines, clear_on_ray, has_pixel, place_of, is_deep}
-use Rattle.plate_log.specs.Law.{Brought, to_sweep, to_touch, later}
+use Rattle.plate_log.specs.Log.{Call, Line, Answer, sweeping, touching, reading, writing, counted, read_as, wrote, refused, line_of, log_from, pixels_after_lines, clear_on_ray, place_of}
+use Rattle.plate_log.specs.Law.{IsBrought, to_sweep, to_touch, later}
 
 -- what a line did to the pixels
 abbrev pub swept_by : View → Body → ℕ → List Pixel → List Pixel × ℕ
@@ -63,7 +65,7 @@ module _ (v : View) (k : ℕ) (P : Pixel → Type 0) (Good : Body → Type 0)
   at_index b g d i e = subst (λ (i : ℕ). (t n : ℕ) → P (Marching t n) → P (after_probe v.far t n (clear_on_ray v b i t))) e (step b g d)
 
   line_keeps : (ps : List Pixel) (ls : List Line) (c : Call) (r : Answer × List Pixel) → Did v ps c r
-      → ((b : Body) → Brought b (record { call = c; answer = r.0; after = r.1 } ∷ ls) → Good b)
+      → ((b : Body) → IsBrought b (record { call = c; answer = r.0; after = r.1 } ∷ ls) → Good b)
       → P (get_or ps k past_the_end) → P (get_or r.1 k past_the_end)
   line_keeps ps ls _ _ (swept_all {b} {budget} deep-b) good h =
       swept_keeps P (clear_on_ray v b) v.far 0 k (λ i e. at_index b (good b to_sweep) deep-b i (omega arith)) budget ps h
@@ -72,18 +74,22 @@ module _ (v : View) (k : ℕ) (P : Pixel → Type 0) (Good : Body → Type 0)
       (λ e. settled_keeps P (clear_on_ray v b (place_of v i j)) v.far (at_index b (good b to_touch) deep-b (place_of v i j) (sym e)) budget (get_or ps (place_of v i j) past_the_end) (rw e h)) h
   line_keeps ps ls _ _ (nothing q) good h = h
 
-  pub log_keeps : (cs : List Call) (ps : List Pixel) → ((b : Body) → Brought b (play v ps cs) → Good b) → P (get_or ps k past_the_end) → P (get_or (pixels_after_lines ps (play v ps cs)) k past_the_end)
+  pub log_keeps : (cs : List Call) (ps : List Pixel) → ((b : Body) → IsBrought b (log_from v ps cs) → Good b) → P (get_or ps k past_the_end) → P (get_or (pixels_after_lines ps (log_from v ps cs)) k past_the_end)
   log_keeps [] ps good h = h
   log_keeps (c ∷ cs) ps good h =
-      log_keeps cs (line_of v ps c).1 (λ b x. good b (later x)) (line_keeps ps (play v (line_of v ps c).1 cs) c (line_of v ps c) (did v ps c) good h)
+      log_keeps cs (line_of v ps c).1 (λ b x. good b (later x)) (line_keeps ps (log_from v (line_of v ps c).1 cs) c (line_of v ps c) (did v ps c) good h)
+
+-- its numbers stay as a march leaves them
+pub sane_log : (v : View) (k : ℕ) (cs : List Call) (ps : List Pixel) → is_sane v.far (get_or ps k past_the_end) ≡ true → is_sane v.far (get_or (pixels_after_lines ps (log_from v ps cs)) k past_the_end) ≡ true
+sane_log v k cs ps = log_keeps v k (λ p. is_sane v.far p ≡ true) (λ _. Unit {0}) (λ b g d t n h. sane_on v.far t n (clear_on_ray v b k t) h) cs ps (λ _ _. tt)
 
 -- calls and then more
-pub play_more : (v : View) (cs more : List Call) (ps : List Pixel) → pixels_after_lines ps (play v ps (cs ++ more)) ≡ pixels_after_lines (pixels_after_lines ps (play v ps cs)) (play v (pixels_after_lines ps (play v ps cs)) more)
-play_more v [] more ps = refl
-play_more v (c ∷ cs) more ps = play_more v cs more (line_of v ps c).1
+pub log_from_more : (v : View) (cs more : List Call) (ps : List Pixel) → pixels_after_lines ps (log_from v ps (cs ++ more)) ≡ pixels_after_lines (pixels_after_lines ps (log_from v ps cs)) (log_from v (pixels_after_lines ps (log_from v ps cs)) more)
+log_from_more v [] more ps = refl
+log_from_more v (c ∷ cs) more ps = log_from_more v cs more (line_of v ps c).1
 
-pub play_append : (v : View) (cs more : List Call) (ps : List Pixel) → play v ps (cs ++ more) ≡ play v ps cs ++ play v (pixels_after_lines ps (play v ps cs)) more
-play_append v [] more ps = refl
-play_append v (c ∷ cs) more ps =
+pub log_from-append : (v : View) (cs more : List Call) (ps : List Pixel) → log_from v ps (cs ++ more) ≡ log_from v ps cs ++ log_from v (pixels_after_lines ps (log_from v ps cs)) more
+log_from-append v [] more ps = refl
+log_from-append v (c ∷ cs) more ps =
     let l = line_of v ps c in
-    ap (λ (ls : List Line). record { call = c; answer = l.0; after = l.1 } ∷ ls) (play_append v cs more l.1)
+    ap (λ (ls : List Line). record { call = c; answer = l.0; after = l.1 } ∷ ls) (log_from-append v cs more l.1)

@@ -1,4 +1,4 @@
--- Each line of a log is fair.
+-- Each line of a log is right.
 use Rattle.std.proofs.Common.{◌≡◌, ℕ, ◌+◌, ◌-◌, ◌*◌, ◌<◌, true, false, cond, eqb, ltb, leb, List, [], ◌∷◌, length, get_or, set, sym, refl, ap, ◌∙◌, inl, inr, arith, length-set}
 use mathlib.Core.Path.{subst⁻¹}
 use Rattle.std.proofs.lemmas.List.{get_or-set_same, get_or-set_other}
@@ -7,34 +7,36 @@ use Rattle.solid.specs.Body.{Body}
 use Rattle.march.specs.declared.pixel.Pixel.{Pixel}
 use Rattle.march.specs.declared.view.View.{View}
 use Rattle.march.specs.March.{marches, is_sane, settle}
-use Rattle.march.proofs.RaySteps.{sane_on}
+use Rattle.march.specs.Deep.{is_deep}
+use Rattle.march.specs.View.{has_pixel}
 use Rattle.plate_log.specs.declared.fault.PlateFault.TheVariants.{NoPixel, Shallow, StillMarching, NoRoom}
 use Rattle.plate_log.specs.Sweep.{past_the_end, sweep, count_marching}
-use Rattle.plate_log.specs.Log.{Call, Answer, sweeping, touching, reading, writing, counted, wrote, area, place_of, pixel_in, line_of, play, clear_on_ray, clear_at, has_pixel, is_deep, image}
-use Rattle.plate_log.specs.Lines.{Went, Inside, Outside, Sweeps, Touches, pixel_of_word, Image, LineIsRight, LinesAreRight}
-use Rattle.plate_log.proofs.Lift.{log_keeps, did}
+use Rattle.plate_log.specs.Image.{image}
+use Rattle.plate_log.specs.Log.{Call, Answer, sweeping, touching, reading, writing, counted, wrote, area, place_of, pixel_in, line_of, log_from, clear_on_ray, clear_at}
+use Rattle.plate_log.specs.Lines.{StepsTo, Inside, Outside, Sweeps, Touches, pixel_of_word, IsImage, LineIsRight, LinesAreRight}
+use Rattle.plate_log.proofs.Lift.{sane_log, did}
 use Rattle.plate_log.proofs.Sums.{swept_sum, swept_left, swept_length, settled_left, touched_sum, line_length}
 use Rattle.plate_log.proofs.Place.{place_in, at_pixel}
 use Rattle.plate_log.proofs.Sanity.{none_marching}
 use Rattle.plate_log.proofs.Bytes.{length_image, image_start, image_far, image_words, state_back}
-use Rattle.plate_log.proofs.Steps.{settled_went, settled_spent, swept_went, swept_spent, swept_order}
+use Rattle.plate_log.proofs.Steps.{settled_steps, settled_spent, swept_steps, swept_spent, swept_order}
 
 -- what is known of the pixels at each line
 pub record Known (v : View) (ps : List Pixel) : Type 0 where
   pub long : length ps ≡ area v
-  pub sound : (k : ℕ) → is_sane v.far (get_or ps k past_the_end) ≡ true
+  pub sane : (k : ℕ) → is_sane v.far (get_or ps k past_the_end) ≡ true
 
-imaged : (v : View) (ps : List Pixel) → Known v ps → count_marching ps ≡ 0 → Image v ps (image v ps)
+imaged : (v : View) (ps : List Pixel) → Known v ps → count_marching ps ≡ 0 → IsImage v ps (image v ps)
 imaged v ps known none =
     let at : (i j : ℕ) → Inside v i j → place_of v i j < length ps = λ i j h. omega (arith, place_in v i j h.0 h.1, known.long) in
     record {
       long = length_image v ps ∙ ap (λ (n : ℕ). 4 * (2 + n)) known.long;
       start = image_start v ps;
       far = image_far v ps;
-      words = λ i j h. image_words v ps (place_of v i j) (at i j h) (known.sound (place_of v i j));
+      words = λ i j h. image_words v ps (place_of v i j) (at i j h) (known.sane (place_of v i j));
       shown = λ i j h.
-          ap pixel_of_word (image_words v ps (place_of v i j) (at i j h) (known.sound (place_of v i j)))
-          ∙ state_back v.far (pixel_in v ps i j) v.far_in_range (known.sound (place_of v i j)) (none_marching ps (place_of v i j) none);
+          ap pixel_of_word (image_words v ps (place_of v i j) (at i j h) (known.sane (place_of v i j)))
+          ∙ state_back v.far (pixel_in v ps i j) v.far_in_range (known.sane (place_of v i j)) (none_marching ps (place_of v i j) none);
     }
 
 pub has_parts : (v : View) (i j : ℕ) → has_pixel v i j ≡ true → Inside v i j
@@ -56,8 +58,8 @@ sweeps v ps b budget =
       as_many = swept_length clear v.far budget 0 ps;
       counts = omega (arith, swept_sum clear v.far budget 0 ps);
       within = omega arith;
-      walks = λ i j h. at_pixel (λ x y. (k : ℕ) × Went (clear_at v b x y) v.far k (pixel_in v ps i j) (pixel_in v s.0 i j)) v i j h.0
-          (swept_went clear v.far budget (place_of v i j) (place_of v i j) 0 (omega arith) ps);
+      walks = λ i j h. at_pixel (λ x y. (k : ℕ) × StepsTo (clear_at v b x y) v.far k (pixel_in v ps i j) (pixel_in v s.0 i j)) v i j h.0
+          (swept_steps clear v.far budget (place_of v i j) (place_of v i j) 0 (omega arith) ps);
       all_spent = λ i j h e. omega (arith, swept_spent clear v.far budget 0 (place_of v i j) ps e);
       in_order = λ i j x y _ _ lt e. swept_order clear v.far budget 0 (place_of v i j) (place_of v x y) ps lt e;
     }
@@ -75,8 +77,8 @@ touches v ps i j b budget h inside =
       as_many = length-set ps k s.0;
       counts = omega (arith, touched_sum clear v.far budget ps k);
       within = omega arith;
-      walks = subst⁻¹ (Went (clear_at v b i j) v.far (budget - s.1) p) new
-          (at_pixel (λ x y. Went (clear_at v b x y) v.far (budget - s.1) p s.0) v i j h.0 (settled_went clear v.far budget p (budget - s.1) (omega arith)));
+      walks = subst⁻¹ (StepsTo (clear_at v b i j) v.far (budget - s.1) p) new
+          (at_pixel (λ x y. StepsTo (clear_at v b x y) v.far (budget - s.1) p s.0) v i j h.0 (settled_steps clear v.far budget p (budget - s.1) (omega arith)));
       all_spent = λ e. omega (arith, settled_spent clear v.far budget p (sym (ap marches new) ∙ e));
       others = λ m ne. get_or-set_other ps k m s.0 past_the_end ne;
     }
@@ -84,12 +86,12 @@ touches v ps i j b budget h inside =
 abbrev At : View → List Pixel → Call → Answer × List Pixel → Type 0
 At v ps c r = LineIsRight v ps c r.0 r.1
 
-fair : (v : View) (ps : List Pixel) (c : Call) → Known v ps → At v ps c (line_of v ps c)
-fair v ps (sweeping b budget) known =
+line_is_right : (v : View) (ps : List Pixel) (c : Call) → Known v ps → At v ps c (line_of v ps c)
+line_is_right v ps (sweeping b budget) known =
     cond_both (is_deep b) _ _ (At v ps (sweeping b budget))
     (λ e. let h = leb-true 32767 b.reach e in ((λ l. absurd (omega arith)), λ _. (budget - (sweep (clear_on_ray v b) v.far budget 0 ps).1, (refl, sweeps v ps b budget))))
     (λ e. let h = leb-false 32767 b.reach e in ((λ _. (Shallow, (refl, refl, refl))), λ l. absurd (omega arith)))
-fair v ps (touching i j b budget) known =
+line_is_right v ps (touching i j b budget) known =
     cond_both (has_pixel v i j) _ _ (At v ps (touching i j b budget))
     (λ e. let h = has_parts v i j e in
     cond_both (is_deep b) _ _ (At v ps (touching i j b budget))
@@ -109,11 +111,11 @@ fair v ps (touching i j b budget) known =
     ))
     (λ d. let l = leb-false 32767 b.reach d in (not_in v i j h, (λ _ _. (Shallow, (refl, refl, refl))), λ _ m. absurd (omega arith))))
     (λ e. ((λ _. (NoPixel, (refl, refl, refl))), (λ h. has_none v i j e h), (λ h. has_none v i j e h)))
-fair v ps (reading i j) known =
+line_is_right v ps (reading i j) known =
     cond_both (has_pixel v i j) _ _ (At v ps (reading i j))
     (λ e. let h = has_parts v i j e in (not_in v i j h, λ _. (refl, refl)))
     (λ e. ((λ _. (NoPixel, (refl, refl, refl))), λ h. has_none v i j e h))
-fair v ps (writing room) known =
+line_is_right v ps (writing room) known =
     cond_both (eqb (count_marching ps) 0) _ _ (At v ps (writing room))
     (λ e. let z = eqb-true (count_marching ps) 0 e in
     cond_both (leb (4 * (2 + length ps)) room) _ _ (At v ps (writing room))
@@ -129,9 +131,9 @@ fair v ps (writing room) known =
 known_line : (v : View) (ps : List Pixel) (c : Call) → Known v ps → Known v (line_of v ps c).1
 known_line v ps c known = record {
   long = line_length v ps c (line_of v ps c) (did v ps c) ∙ known.long;
-  sound = λ k. log_keeps v k (λ p. is_sane v.far p ≡ true) (λ _. Unit {0}) (λ b g d t n h. sane_on v.far t n (clear_on_ray v b k t) h) (c ∷ []) ps (λ _ _. tt) (known.sound k);
+  sane = λ k. sane_log v k (c ∷ []) ps (known.sane k);
 }
 
-pub lines : (v : View) (cs : List Call) (ps : List Pixel) → Known v ps → LinesAreRight v ps (play v ps cs)
+pub lines : (v : View) (cs : List Call) (ps : List Pixel) → Known v ps → LinesAreRight v ps (log_from v ps cs)
 lines v [] ps known = tt
-lines v (c ∷ cs) ps known = (fair v ps c known, lines v cs (line_of v ps c).1 (known_line v ps c known))
+lines v (c ∷ cs) ps known = (line_is_right v ps c known, lines v cs (line_of v ps c).1 (known_line v ps c known))

@@ -21,12 +21,12 @@ sane_set far (p ∷ ps) (suc k) q e s =
     and_from (is_sane far p) (are_sane far (set ps k q)) h.0 (sane_set far ps k q h.1 s)
 
 -- the first n of a list of records
-pub sound_at : (far n k : ℕ) (rs : List Pixel) → are_sane far (take n rs) ≡ true → k < n → n ≤ length rs → is_sane far (get_or rs k new_pixel) ≡ true
-sound_at far n k rs e h l =
+pub sane_at_front : (far n k : ℕ) (rs : List Pixel) → are_sane far (take n rs) ≡ true → k < n → n ≤ length rs → is_sane far (get_or rs k new_pixel) ≡ true
+sane_at_front far n k rs e h l =
     ap (is_sane far) (sym (get_or-take n rs k new_pixel h)) ∙ sane_at far (take n rs) k e (omega (arith, length-take-le n rs l))
 
-pub sound_set : (far n k : ℕ) (rs : List Pixel) (q : Pixel) → are_sane far (take n rs) ≡ true → k < n → is_sane far q ≡ true → are_sane far (take n (set rs k q)) ≡ true
-sound_set far n k rs q e h s = ap (are_sane far) (take-set-lt n rs k q h) ∙ sane_set far (take n rs) k q e s
+pub sane_set_front : (far n k : ℕ) (rs : List Pixel) (q : Pixel) → are_sane far (take n rs) ≡ true → k < n → is_sane far q ≡ true → are_sane far (take n (set rs k q)) ≡ true
+sane_set_front far n k rs q e h s = ap (are_sane far) (take-set-lt n rs k q h) ∙ sane_set far (take n rs) k q e s
 
 pub sane_fresh : (far n : ℕ) → are_sane far (replicate n new_pixel) ≡ true
 sane_fresh far zero = refl

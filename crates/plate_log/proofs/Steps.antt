@@ -5,20 +5,20 @@ use Rattle.march.specs.declared.pixel.Pixel.{Pixel}
 use Rattle.march.specs.declared.pixel.Pixel.TheVariants.{Marching, Hit, Miss}
 use Rattle.march.specs.March.{after_probe, settle, marches}
 use Rattle.plate_log.specs.Sweep.{past_the_end, sweep}
-use Rattle.plate_log.specs.Lines.{Went, stays, steps}
+use Rattle.plate_log.specs.Lines.{StepsTo, stays, steps}
 use Rattle.plate_log.proofs.Sums.{settled_left, settled_rest, swept_rest, one_if}
 use Rattle.plate_log.proofs.Sanity.{none_marching}
 
 -- one pixel takes as many steps as of the budget are gone
-pub settled_went : (clear : ℕ → ℕ) (far b : ℕ) (p : Pixel) (k : ℕ) → k + (settle clear far b p).1 ≡ b → Went clear far k p (settle clear far b p).0
-settled_went clear far zero p zero e = stays
-settled_went clear far zero p (suc k) e = absurd (omega arith)
-settled_went clear far (suc b) (Marching t n) zero e = absurd (omega (arith, settled_left clear far b (after_probe far t n (clear t))))
-settled_went clear far (suc b) (Marching t n) (suc k) e = steps (settled_went clear far b (after_probe far t n (clear t)) k (omega arith))
-settled_went clear far (suc b) (Hit d n) zero e = stays
-settled_went clear far (suc b) (Hit d n) (suc k) e = absurd (omega arith)
-settled_went clear far (suc b) (Miss n) zero e = stays
-settled_went clear far (suc b) (Miss n) (suc k) e = absurd (omega arith)
+pub settled_steps : (clear : ℕ → ℕ) (far b : ℕ) (p : Pixel) (k : ℕ) → k + (settle clear far b p).1 ≡ b → StepsTo clear far k p (settle clear far b p).0
+settled_steps clear far zero p zero e = stays
+settled_steps clear far zero p (suc k) e = absurd (omega arith)
+settled_steps clear far (suc b) (Marching t n) zero e = absurd (omega (arith, settled_left clear far b (after_probe far t n (clear t))))
+settled_steps clear far (suc b) (Marching t n) (suc k) e = steps (settled_steps clear far b (after_probe far t n (clear t)) k (omega arith))
+settled_steps clear far (suc b) (Hit d n) zero e = stays
+settled_steps clear far (suc b) (Hit d n) (suc k) e = absurd (omega arith)
+settled_steps clear far (suc b) (Miss n) zero e = stays
+settled_steps clear far (suc b) (Miss n) (suc k) e = absurd (omega arith)
 
 -- one that marches on has spent all of it
 marching_one : (p : Pixel) → marches p ≡ true → one_if p ≡ 1
@@ -32,14 +32,14 @@ settled_spent clear far b p e = from (settle clear far b p).1 refl
     from (suc l) h = absurd (omega (arith, settled_rest clear far b p (omega arith), marching_one (settle clear far b p).0 e))
 
 -- the pixel at k of a sweep
-pub swept_went : (clear : ℕ → ℕ → ℕ) (far b i k j : ℕ) → i ≡ j + k → (ps : List Pixel) → (n : ℕ) × Went (clear i) far n (get_or ps k past_the_end) (get_or (sweep clear far b j ps).0 k past_the_end)
-swept_went clear far b i k j e [] = (0, stays)
-swept_went clear far b i zero j e (p ∷ ps) =
+pub swept_steps : (clear : ℕ → ℕ → ℕ) (far b i k j : ℕ) → i ≡ j + k → (ps : List Pixel) → (n : ℕ) × StepsTo (clear i) far n (get_or ps k past_the_end) (get_or (sweep clear far b j ps).0 k past_the_end)
+swept_steps clear far b i k j e [] = (0, stays)
+swept_steps clear far b i zero j e (p ∷ ps) =
     let s = settle (clear j) far b p in
     let same : j ≡ i = omega arith in
     let n : ℕ = b - s.1 in
-    (n, subst (λ (i : ℕ). Went (clear i) far n p s.0) same (settled_went (clear j) far b p n (omega (arith, settled_left (clear j) far b p))))
-swept_went clear far b i (suc k) j e (p ∷ ps) = swept_went clear far (settle (clear j) far b p).1 i k (j + 1) (omega arith) ps
+    (n, subst (λ (i : ℕ). StepsTo (clear i) far n p s.0) same (settled_steps (clear j) far b p n (omega (arith, settled_left (clear j) far b p))))
+swept_steps clear far b i (suc k) j e (p ∷ ps) = swept_steps clear far (settle (clear j) far b p).1 i k (j + 1) (omega arith) ps
 
 pub swept_spent : (clear : ℕ → ℕ → ℕ) (far b j k : ℕ) (ps : List Pixel) → marches (get_or (sweep clear far b j ps).0 k past_the_end) ≡ true → (sweep clear far b j ps).1 ≡ 0
 swept_spent clear far b j k ps e = from (sweep clear far b j ps).1 refl

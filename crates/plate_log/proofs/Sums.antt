@@ -6,8 +6,8 @@ use Rattle.march.specs.declared.view.View.{View}
 use Rattle.march.specs.March.{new_pixel, after_probe, settle, marches, probes, is_sane}
 use Rattle.march.proofs.RaySteps.{stepped_by, settled_keeps, sane_parts, sane_probes}
 use Rattle.plate_log.specs.Sweep.{past_the_end, sweep, count_marching, count_probes}
-use Rattle.plate_log.specs.Log.{Call, Line, Answer, sweeping, touching, reading, writing, counted, read_as, wrote, refused, line_of, play, pixels_after_lines, clear_on_ray, place_of}
-use Rattle.plate_log.specs.Law.{probes_answered, sweep_budgets}
+use Rattle.plate_log.specs.Log.{Call, Line, Answer, sweeping, touching, reading, writing, counted, read_as, wrote, refused, line_of, log_from, pixels_after_lines, clear_on_ray, place_of}
+use Rattle.plate_log.specs.Law.{probes_in, budget_in, probes_answered, sweep_budgets}
 use Rattle.plate_log.proofs.Lift.{Did, did, swept_all, touched_one, nothing, Quiet, swept_by, touched_by}
 
 abbrev pub one_if : Pixel → ℕ
@@ -86,31 +86,25 @@ set_fewer (p ∷ ps) zero x h = omega arith
 set_fewer (p ∷ ps) (suc k) x h = omega (arith, set_fewer ps k x h)
 
 -- a line
-abbrev amount : Answer → ℕ
-amount a = elim a [ counted s m ↦ s | read_as p ↦ 0 | wrote n bs ↦ 0 | refused f ↦ 0 ]
+probes_in-Quiet : (a : Answer) → Quiet a → probes_in a ≡ 0
+probes_in-Quiet (counted s l) q = absurd q
+probes_in-Quiet (read_as p) q = refl
+probes_in-Quiet (wrote n bs) q = refl
+probes_in-Quiet (refused f) q = refl
 
-abbrev pub asked : Call → Answer → ℕ
-asked c a = elim c [ sweeping b budget ↦ elim a [ counted s m ↦ budget | read_as p ↦ 0 | wrote n bs ↦ 0 | refused f ↦ 0 ] | touching i j b budget ↦ 0 | reading i j ↦ 0 | writing room ↦ 0 ]
+budget_in-Quiet : (c : Call) (a : Answer) → Quiet a → budget_in c a ≡ 0
+budget_in-Quiet (sweeping b budget) (counted s l) q = absurd q
+budget_in-Quiet (sweeping b budget) (read_as p) q = refl
+budget_in-Quiet (sweeping b budget) (wrote n bs) q = refl
+budget_in-Quiet (sweeping b budget) (refused f) q = refl
+budget_in-Quiet (touching i j b budget) a q = refl
+budget_in-Quiet (reading i j) a q = refl
+budget_in-Quiet (writing room) a q = refl
 
-quiet_amount : (a : Answer) → Quiet a → amount a ≡ 0
-quiet_amount (counted s l) q = absurd q
-quiet_amount (read_as p) q = refl
-quiet_amount (wrote n bs) q = refl
-quiet_amount (refused f) q = refl
-
-quiet_asked : (c : Call) (a : Answer) → Quiet a → asked c a ≡ 0
-quiet_asked (sweeping b budget) (counted s l) q = absurd q
-quiet_asked (sweeping b budget) (read_as p) q = refl
-quiet_asked (sweeping b budget) (wrote n bs) q = refl
-quiet_asked (sweeping b budget) (refused f) q = refl
-quiet_asked (touching i j b budget) a q = refl
-quiet_asked (reading i j) a q = refl
-quiet_asked (writing room) a q = refl
-
-line_sum : (v : View) (ps : List Pixel) (c : Call) (r : Answer × List Pixel) → Did v ps c r → count_probes r.1 ≡ count_probes ps + amount r.0
+line_sum : (v : View) (ps : List Pixel) (c : Call) (r : Answer × List Pixel) → Did v ps c r → count_probes r.1 ≡ count_probes ps + probes_in r.0
 line_sum v ps _ _ (swept_all {b} {budget} d) = omega (arith, swept_sum (clear_on_ray v b) v.far budget 0 ps, swept_left (clear_on_ray v b) v.far budget 0 ps)
 line_sum v ps _ _ (touched_one {i} {j} {b} {budget} d) = omega (arith, touched_sum (clear_on_ray v b (place_of v i j)) v.far budget ps (place_of v i j), settled_left (clear_on_ray v b (place_of v i j)) v.far budget (get_or ps (place_of v i j) past_the_end))
-line_sum v ps _ _ (nothing {a} q) = omega (arith, quiet_amount a q)
+line_sum v ps _ _ (nothing {a} q) = omega (arith, probes_in-Quiet a q)
 
 line_fewer : (v : View) (ps : List Pixel) (c : Call) (r : Answer × List Pixel) → Did v ps c r → count_marching r.1 ≤ count_marching ps
 line_fewer v ps _ _ (swept_all {b} {budget} d) = swept_fewer (clear_on_ray v b) v.far budget 0 ps
@@ -122,38 +116,38 @@ line_length v ps _ _ (swept_all {b} {budget} d) = swept_length (clear_on_ray v b
 line_length v ps _ _ (touched_one {i} {j} {b} {budget} d) = length-set ps (place_of v i j) (touched_by v b (place_of v i j) budget ps).0
 line_length v ps _ _ (nothing q) = refl
 
-line_either : (v : View) (ps : List Pixel) (c : Call) (r : Answer × List Pixel) → Did v ps c r → (count_marching r.1 ≡ 0) ⊎ (asked c r.0 ≤ amount r.0)
+line_either : (v : View) (ps : List Pixel) (c : Call) (r : Answer × List Pixel) → Did v ps c r → (count_marching r.1 ≡ 0) ⊎ (budget_in c r.0 ≤ probes_in r.0)
 line_either v ps _ _ (swept_all {b} {budget} d) = at_left (swept_by v b budget ps).1 refl
   where
     at_left : (l : ℕ) → (swept_by v b budget ps).1 ≡ l → (count_marching (swept_by v b budget ps).0 ≡ 0) ⊎ (budget ≤ budget - (swept_by v b budget ps).1)
     at_left zero e = inr (omega arith)
     at_left (suc l) e = inl (swept_rest (clear_on_ray v b) v.far budget 0 ps (omega arith))
 line_either v ps _ _ (touched_one d) = inr (omega arith)
-line_either v ps _ _ (nothing {c} {a} q) = inr (omega (arith, quiet_asked c a q))
+line_either v ps _ _ (nothing {c} {a} q) = inr (omega (arith, budget_in-Quiet c a q))
 
 -- a log
-pub log_sum : (v : View) (cs : List Call) (ps : List Pixel) → count_probes (pixels_after_lines ps (play v ps cs)) ≡ count_probes ps + probes_answered (play v ps cs)
+pub log_sum : (v : View) (cs : List Call) (ps : List Pixel) → count_probes (pixels_after_lines ps (log_from v ps cs)) ≡ count_probes ps + probes_answered (log_from v ps cs)
 log_sum v [] ps = omega arith
 log_sum v (c ∷ cs) ps = omega (arith, line_sum v ps c (line_of v ps c) (did v ps c), log_sum v cs (line_of v ps c).1)
 
-log_fewer : (v : View) (cs : List Call) (ps : List Pixel) → count_marching (pixels_after_lines ps (play v ps cs)) ≤ count_marching ps
+log_fewer : (v : View) (cs : List Call) (ps : List Pixel) → count_marching (pixels_after_lines ps (log_from v ps cs)) ≤ count_marching ps
 log_fewer v [] ps = omega arith
 log_fewer v (c ∷ cs) ps = omega (arith, line_fewer v ps c (line_of v ps c) (did v ps c), log_fewer v cs (line_of v ps c).1)
 
-pub log_length : (v : View) (cs : List Call) (ps : List Pixel) → length (pixels_after_lines ps (play v ps cs)) ≡ length ps
+pub log_length : (v : View) (cs : List Call) (ps : List Pixel) → length (pixels_after_lines ps (log_from v ps cs)) ≡ length ps
 log_length v [] ps = refl
 log_length v (c ∷ cs) ps = omega (arith, line_length v ps c (line_of v ps c) (did v ps c), log_length v cs (line_of v ps c).1)
 
 -- nothing marches any more, or the sweeps spent all that they were given
-pub log_either : (v : View) (cs : List Call) (ps : List Pixel) → (count_marching (pixels_after_lines ps (play v ps cs)) ≡ 0) ⊎ (sweep_budgets (play v ps cs) ≤ probes_answered (play v ps cs))
+pub log_either : (v : View) (cs : List Call) (ps : List Pixel) → (count_marching (pixels_after_lines ps (log_from v ps cs)) ≡ 0) ⊎ (sweep_budgets (log_from v ps cs) ≤ probes_answered (log_from v ps cs))
 log_either v [] ps = inr (omega arith)
 log_either v (c ∷ cs) ps = join (line_either v ps c (line_of v ps c) (did v ps c)) (log_either v cs (line_of v ps c).1)
   where
     rest : List Line
-    rest = play v (line_of v ps c).1 cs
+    rest = log_from v (line_of v ps c).1 cs
 
-    join : (count_marching (line_of v ps c).1 ≡ 0) ⊎ (asked c (line_of v ps c).0 ≤ amount (line_of v ps c).0) → (count_marching (pixels_after_lines (line_of v ps c).1 rest) ≡ 0) ⊎ (sweep_budgets rest ≤ probes_answered rest)
-        → (count_marching (pixels_after_lines (line_of v ps c).1 rest) ≡ 0) ⊎ (asked c (line_of v ps c).0 + sweep_budgets rest ≤ amount (line_of v ps c).0 + probes_answered rest)
+    join : (count_marching (line_of v ps c).1 ≡ 0) ⊎ (budget_in c (line_of v ps c).0 ≤ probes_in (line_of v ps c).0) → (count_marching (pixels_after_lines (line_of v ps c).1 rest) ≡ 0) ⊎ (sweep_budgets rest ≤ probes_answered rest)
+        → (count_marching (pixels_after_lines (line_of v ps c).1 rest) ≡ 0) ⊎ (budget_in c (line_of v ps c).0 + sweep_budgets rest ≤ probes_in (line_of v ps c).0 + probes_answered rest)
     join (inl a) y = inl (omega (arith, log_fewer v cs (line_of v ps c).1))
     join (inr a) (inl b) = inl b
     join (inr a) (inr b) = inr (omega arith)

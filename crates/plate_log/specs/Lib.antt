@@ -1,6 +1,9 @@
 pub mod Codes
 pub mod Sweep
+pub mod Image
 pub mod Log
+pub mod Records
+pub mod Answers
 pub mod Opening
 pub mod Lines
 pub mod Example

@@ -1,5 +1,5 @@
 -- A sweep over pixels in their order, and what is counted of them.
-use Rattle.std.specs.Prelude.{ℕ, ◌+◌, Bool, true, cond, ◌&&◌, List, [], ◌∷◌}
+use Rattle.std.specs.Prelude.{ℕ, ◌+◌, Bool, true, if◌then◌else◌, ◌&&◌, List, [], ◌∷◌}
 use Rattle.march.specs.declared.pixel.Pixel.{Pixel}
 use Rattle.march.specs.declared.pixel.Pixel.TheVariants.{Miss}
 use Rattle.march.specs.March.{marches, probes, is_sane, settle}
@@ -8,8 +8,8 @@ use Rattle.march.specs.March.{marches, probes, is_sane, settle}
 abbrev pub past_the_end : Pixel
 past_the_end = Miss 0
 
--- the pixels from place k on, each settled as far as the budget goes, with the clearance along its own ray, which is `clear k` at
--- place k; and what is left of the budget
+-- the pixels from place k on, each settled as far as the budget goes, with the clearance along its own ray, which is
+-- `clear k` at place k; and what is left of the budget
 abbrev pub sweep : (clear : ℕ → ℕ → ℕ) (far budget k : ℕ) → List Pixel → List Pixel × ℕ
 sweep clear far budget k [] = ([], budget)
 sweep clear far budget k (p ∷ ps) =
@@ -20,7 +20,7 @@ sweep clear far budget k (p ∷ ps) =
 -- how many of the pixels march
 abbrev pub count_marching : List Pixel → ℕ
 count_marching [] = 0
-count_marching (p ∷ ps) = cond (marches p) 1 0 + count_marching ps
+count_marching (p ∷ ps) = (if marches p then 1 else 0) + count_marching ps
 
 -- all their probes
 abbrev pub count_probes : List Pixel → ℕ

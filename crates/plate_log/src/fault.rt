@@ -17,7 +17,8 @@ pub enum PlateFault {
     TooFewRecords,
     /// 19: the view has no such pixel.
     NoPixel,
-    /// 16: the solid's reach is under 32,767, so that it does not answer on all of the working range.
+    /// 16: the solid's reach is under 32,767, so that it does not answer on all of the working
+    /// range.
     Shallow,
     /// 20: a pixel still marches.
     StillMarching,

@@ -5,3 +5,6 @@
 mod fault;
 
 pub use fault::PlateFault;
+
+/// The words of an image before its pixels: its start and its far.
+pub const HEAD: usize = 2;

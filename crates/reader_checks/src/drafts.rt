@@ -14,7 +14,7 @@ const FARTHEST: Point = Point {
 };
 
 /// The reach of the scene, or the number and the place of a refused call.
-fn told(called: Result<(), DraftFault>, draft: &Draft) -> Answer<u32> {
+fn reach_after(called: Result<(), DraftFault>, draft: &Draft) -> Answer<u32> {
     let mut scene = Scene::new();
     answer(called.and(scene.fill(draft)))?;
     Ok(scene.reach())
@@ -31,8 +31,8 @@ fn shifts(draft: &mut Draft, times: u32) -> Result<(), DraftFault> {
 
 fn shifted(times: u32) -> Answer<u32> {
     let mut draft = Draft::new();
-    let answer = shifts(&mut draft, times);
-    told(answer, &draft)
+    let called = shifts(&mut draft, times);
+    reach_after(called, &draft)
 }
 
 #[test]
@@ -56,14 +56,14 @@ fn balls(draft: &mut Draft, times: u32) -> Result<(), DraftFault> {
 fn at_most_256_nodes(rt: HostRuntime) -> Result<(), Fail> {
     let mut draft = Draft::new();
     let most = balls(&mut draft, 256);
-    assert_eq!(rt; told(most, &draft), Err((12, 0)));
+    assert_eq!(rt; reach_after(most, &draft), Err((12, 0)));
     assert_eq!(rt; draft.nodes(), 256);
     assert_eq!(rt; draft.standing(), 256);
     // there is no room, whatever else is wrong with the node
     let ball = draft.ball(ORIGIN, -1);
-    assert_eq!(rt; told(ball, &draft), Err((8, 0)));
+    assert_eq!(rt; reach_after(ball, &draft), Err((8, 0)));
     let unite = draft.unite();
-    assert_eq!(rt; told(unite, &draft), Err((8, 0)));
+    assert_eq!(rt; reach_after(unite, &draft), Err((8, 0)));
     assert_eq!(rt; draft.standing(), 256);
     Ok(())
 }
@@ -77,21 +77,21 @@ fn which_of_two_faults_comes_first(rt: HostRuntime) -> Result<(), Fail> {
         y: 0,
         z: 16_384,
     });
-    assert_eq!(rt; told(shift, &draft), Err((9, 0)));
+    assert_eq!(rt; reach_after(shift, &draft), Err((9, 0)));
     let thicken = draft.thicken(1024);
-    assert_eq!(rt; told(thicken, &draft), Err((9, 0)));
+    assert_eq!(rt; reach_after(thicken, &draft), Err((9, 0)));
     let two = balls(&mut draft, 2);
-    assert_eq!(rt; told(two, &draft), Err((12, 0)));
+    assert_eq!(rt; reach_after(two, &draft), Err((12, 0)));
     let meet = draft.meet();
-    assert_eq!(rt; told(meet, &draft), Ok(1_048_576));
+    assert_eq!(rt; reach_after(meet, &draft), Ok(1_048_576));
     // a meet is not exact, and the number is out of range
     let thicken = draft.thicken(1024);
-    assert_eq!(rt; told(thicken, &draft), Err((10, 0)));
+    assert_eq!(rt; reach_after(thicken, &draft), Err((10, 0)));
     let shift = draft.shift(Point {
         x: 0,
         y: 0,
         z: 16_384,
     });
-    assert_eq!(rt; told(shift, &draft), Err((4, 3)));
+    assert_eq!(rt; reach_after(shift, &draft), Err((4, 3)));
     Ok(())
 }

@@ -1,4 +1,4 @@
-//! Files made of words, and what is told of them.
+//! Files made of words, and what a reading of them answers.
 use refusal::Refusal;
 use std::alloc::{AllocError, Global};
 

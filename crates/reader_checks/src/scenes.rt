@@ -61,45 +61,45 @@ const SCENE: [u32; 20] = [
 ];
 
 /// The reach of a scene, or the number and the place of its refusal.
-fn told(bytes: &[u8]) -> Answer<u32> {
+fn read(bytes: &[u8]) -> Answer<u32> {
     let mut scene = Scene::new();
     answer(read_scene(&mut Reader::new(bytes), &mut scene))?;
     Ok(scene.reach())
 }
 
-fn told_of(rt: &HostRuntime, words: &[u32]) -> Result<Answer<u32>, Fail> {
+fn read_words(rt: &HostRuntime, words: &[u32]) -> Result<Answer<u32>, Fail> {
     let file = file_of(rt.alloc(), words)?;
-    Ok(told(&file))
+    Ok(read(&file))
 }
 
-fn told_with(rt: &HostRuntime, place: u32, word: u32) -> Result<Answer<u32>, Fail> {
+fn read_with(rt: &HostRuntime, place: u32, word: u32) -> Result<Answer<u32>, Fail> {
     let file = with(rt.alloc(), SCENE, place, word)?;
-    Ok(told(&file))
+    Ok(read(&file))
 }
 
 #[test]
 fn a_scene_cut_at_every_byte(rt: HostRuntime) -> Result<(), Fail> {
     let file = file_of(rt.alloc(), &SCENE)?;
     for n in 0..80 {
-        assert_eq!(rt; told(cut(&file, n)), Err((1, n / 4)));
+        assert_eq!(rt; read(cut(&file, n)), Err((1, n / 4)));
     }
-    assert_eq!(rt; told(&file), Ok(1_048_575));
+    assert_eq!(rt; read(&file), Ok(1_048_575));
     Ok(())
 }
 
 #[test]
 fn kinds_and_bits_of_a_scene(rt: HostRuntime) -> Result<(), Fail> {
     for word in OTHER_KINDS {
-        assert_eq!(rt; told_with(&rt, 0, word)?, Err((2, 0)));
-        assert_eq!(rt; told_with(&rt, 1, word)?, Err((2, 1)));
-        assert_eq!(rt; told_with(&rt, 13, word)?, Err((2, 13)));
+        assert_eq!(rt; read_with(&rt, 0, word)?, Err((2, 0)));
+        assert_eq!(rt; read_with(&rt, 1, word)?, Err((2, 1)));
+        assert_eq!(rt; read_with(&rt, 13, word)?, Err((2, 13)));
     }
     for place in [1, 6, 13, 14, 18] {
-        assert_eq!(rt; told_with(&rt, place, BALL + 1)?, Err((3, place)));
+        assert_eq!(rt; read_with(&rt, place, BALL + 1)?, Err((3, place)));
     }
     for place in [2, 5, 9, 15, 19] {
-        assert_eq!(rt; told_with(&rt, place, BALL)?, Err((2, place)));
-        assert_eq!(rt; told_with(&rt, place, 0x2001_0000)?, Err((3, place)));
+        assert_eq!(rt; read_with(&rt, place, BALL)?, Err((2, place)));
+        assert_eq!(rt; read_with(&rt, place, 0x2001_0000)?, Err((3, place)));
     }
     Ok(())
 }
@@ -116,8 +116,8 @@ fn standing_at(place: u32) -> Option<u32> {
     }
 }
 
-/// How many numbers a node of a kind has, and how many nodes it takes. Kinds are told here by the
-/// numbers that a file has for them, so that a wrong number of a `Kind` is found.
+/// How many numbers a node of a kind has, and how many nodes it takes. Kinds go here by the numbers
+/// that a file has for them, so that a wrong number of a `Kind` is found.
 fn shape(kind: u32) -> Option<(u32, u32)> {
     match kind {
         3 => Some((4, 0)),
@@ -130,15 +130,15 @@ fn shape(kind: u32) -> Option<(u32, u32)> {
     }
 }
 
-/// The first place after the word of a node with so many numbers where the scene has no number though
-/// one is due, or, where the next node is due, a number.
+/// The first place after the word of a node with so many numbers where the scene has no number
+/// though one is due, or, where the next node is due, a number.
 fn first_misfit(node: u32, numbers: u32) -> Option<u32> {
     let after = node.saturating_add(1);
     (after..20).take(numbers as usize + 1).find(|place| standing_at(*place).is_none()
         != (place.saturating_sub(node) <= numbers))
 }
 
-/// What the scene tells with a word of another kind, all of whose other bits are zero, in the
+/// What the scene answers with a word of another kind, all of whose other bits are zero, in the
 /// place of a node's.
 fn with_node(place: u32, standing: u32, kind: u32) -> Answer<u32> {
     match shape(kind) {
@@ -177,7 +177,7 @@ fn every_kind_at_every_place_of_a_scene(rt: HostRuntime) -> Result<(), Fail> {
     for place in 0..20 {
         for kind in 0..16 {
             assert_eq!(rt;
-                told_with(&rt, place, kind * 0x1000_0000)?,
+                read_with(&rt, place, kind * 0x1000_0000)?,
                 with_kind(place, kind)
             );
         }
@@ -194,7 +194,7 @@ fn unnamed_bits_of_a_scene(rt: HostRuntime) -> Result<(), Fail> {
         };
         for bit in named..28 {
             assert_eq!(rt;
-                told_with(&rt, place, due | (1u32 << bit))?,
+                read_with(&rt, place, due | (1u32 << bit))?,
                 Err((3, place))
             );
         }
@@ -204,43 +204,43 @@ fn unnamed_bits_of_a_scene(rt: HostRuntime) -> Result<(), Fail> {
 
 #[test]
 fn numbers_of_a_scene_out_of_range(rt: HostRuntime) -> Result<(), Fail> {
-    assert_eq!(rt; told_with(&rt, 2, number(-16385))?, Err((4, 2)));
-    assert_eq!(rt; told_with(&rt, 5, number(-1))?, Err((4, 5)));
-    assert_eq!(rt; told_with(&rt, 5, number(16384))?, Err((4, 5)));
-    assert_eq!(rt; told_with(&rt, 12, number(16384))?, Err((4, 12)));
-    assert_eq!(rt; told_with(&rt, 10, number(-1))?, Err((6, 6)));
-    assert_eq!(rt; told_with(&rt, 15, number(-16384))?, Err((4, 15)));
-    assert_eq!(rt; told_with(&rt, 19, number(1024))?, Err((4, 19)));
-    assert_eq!(rt; told_with(&rt, 19, number(-1))?, Err((4, 19)));
+    assert_eq!(rt; read_with(&rt, 2, number(-16385))?, Err((4, 2)));
+    assert_eq!(rt; read_with(&rt, 5, number(-1))?, Err((4, 5)));
+    assert_eq!(rt; read_with(&rt, 5, number(16384))?, Err((4, 5)));
+    assert_eq!(rt; read_with(&rt, 12, number(16384))?, Err((4, 12)));
+    assert_eq!(rt; read_with(&rt, 10, number(-1))?, Err((6, 6)));
+    assert_eq!(rt; read_with(&rt, 15, number(-16384))?, Err((4, 15)));
+    assert_eq!(rt; read_with(&rt, 19, number(1024))?, Err((4, 19)));
+    assert_eq!(rt; read_with(&rt, 19, number(-1))?, Err((4, 19)));
     Ok(())
 }
 
 #[test]
 fn counts_of_a_scene(rt: HostRuntime) -> Result<(), Fail> {
-    assert_eq!(rt; told_with(&rt, 0, 0x1000_0000)?, Err((7, 0)));
-    assert_eq!(rt; told_with(&rt, 0, 0x1000_0701)?, Err((7, 0)));
-    assert_eq!(rt; told_with(&rt, 0, 0x1fff_ffff)?, Err((7, 0)));
-    assert_eq!(rt; told_with(&rt, 0, 0x1000_0700)?, Err((1, 20)));
-    assert_eq!(rt; told_with(&rt, 0, 0x1000_0001)?, Err((12, 1)));
-    assert_eq!(rt; told_with(&rt, 0, 0x1000_0005)?, Ok(1_048_576));
-    assert_eq!(rt; told_with(&rt, 0, 0x1000_000b)?, Err((12, 6)));
-    assert_eq!(rt; told_with(&rt, 0, 0x1000_000c)?, Err((12, 12)));
-    assert_eq!(rt; told_with(&rt, 0, 0x1000_0012)?, Err((12, 18)));
+    assert_eq!(rt; read_with(&rt, 0, 0x1000_0000)?, Err((7, 0)));
+    assert_eq!(rt; read_with(&rt, 0, 0x1000_0701)?, Err((7, 0)));
+    assert_eq!(rt; read_with(&rt, 0, 0x1fff_ffff)?, Err((7, 0)));
+    assert_eq!(rt; read_with(&rt, 0, 0x1000_0700)?, Err((1, 20)));
+    assert_eq!(rt; read_with(&rt, 0, 0x1000_0001)?, Err((12, 1)));
+    assert_eq!(rt; read_with(&rt, 0, 0x1000_0005)?, Ok(1_048_576));
+    assert_eq!(rt; read_with(&rt, 0, 0x1000_000b)?, Err((12, 6)));
+    assert_eq!(rt; read_with(&rt, 0, 0x1000_000c)?, Err((12, 12)));
+    assert_eq!(rt; read_with(&rt, 0, 0x1000_0012)?, Err((12, 18)));
     Ok(())
 }
 
 #[test]
 fn which_of_two_faults_comes_first(rt: HostRuntime) -> Result<(), Fail> {
     // too few nodes stand, and the numbers pass the count: 12 comes first
-    assert_eq!(rt; told_of(&rt, &[0x1000_0001, SHIFT])?, Err((12, 1)));
+    assert_eq!(rt; read_words(&rt, &[0x1000_0001, SHIFT])?, Err((12, 1)));
     assert_eq!(rt;
-        told_of(&rt, &[0x1000_0004, SHIFT, ZERO, ZERO, ZERO])?,
+        read_words(&rt, &[0x1000_0004, SHIFT, ZERO, ZERO, ZERO])?,
         Err((9, 1))
     );
-    assert_eq!(rt; told_of(&rt, &[0x1000_0001, UNITE])?, Err((9, 1)));
-    assert_eq!(rt; told_of(&rt, &[0x1000_0001, MEET])?, Err((9, 1)));
+    assert_eq!(rt; read_words(&rt, &[0x1000_0001, UNITE])?, Err((9, 1)));
+    assert_eq!(rt; read_words(&rt, &[0x1000_0001, MEET])?, Err((9, 1)));
     assert_eq!(rt;
-        told_of(&rt, &[0x1000_0006, BALL, ZERO, ZERO, ZERO, ZERO, UNITE])?,
+        read_words(&rt, &[0x1000_0006, BALL, ZERO, ZERO, ZERO, ZERO, UNITE])?,
         Err((9, 6))
     );
     // a meet is thickened, by a number that is out of range: 10 comes first
@@ -260,13 +260,13 @@ fn which_of_two_faults_comes_first(rt: HostRuntime) -> Result<(), Fail> {
         THICKEN,
         0x2000_7fff,
     ];
-    assert_eq!(rt; told_of(&rt, &thickened)?, Err((10, 12)));
+    assert_eq!(rt; read_words(&rt, &thickened)?, Err((10, 12)));
     // it passes the count too: 12 comes first
     let uncounted = with(rt.alloc(), thickened, 0, 0x1000_000c)?;
-    assert_eq!(rt; told(&uncounted), Err((12, 12)));
+    assert_eq!(rt; read(&uncounted), Err((12, 12)));
     // a shift of nothing, by a number that is out of range: 9 comes first
     assert_eq!(rt;
-        told_of(&rt, &[0x1000_0004, SHIFT, number(16384), ZERO, ZERO])?,
+        read_words(&rt, &[0x1000_0004, SHIFT, number(16384), ZERO, ZERO])?,
         Err((9, 1))
     );
     // crossed corners, and a later number out of range: the number comes first
@@ -280,19 +280,22 @@ fn which_of_two_faults_comes_first(rt: HostRuntime) -> Result<(), Fail> {
         ZERO,
         0x2000_7fff,
     ];
-    assert_eq!(rt; told_of(&rt, &crossed)?, Err((4, 7)));
+    assert_eq!(rt; read_words(&rt, &crossed)?, Err((4, 7)));
     Ok(())
 }
 
 #[test]
 fn which_of_two_faults_of_one_word_comes_first(rt: HostRuntime) -> Result<(), Fail> {
     // a start word of another kind that counts nothing, a node of no kind with a bit too many
-    assert_eq!(rt; told_with(&rt, 0, 0x2000_0000)?, Err((2, 0)));
-    assert_eq!(rt; told_with(&rt, 13, 0x2000_0001)?, Err((2, 13)));
+    assert_eq!(rt; read_with(&rt, 0, 0x2000_0000)?, Err((2, 0)));
+    assert_eq!(rt; read_with(&rt, 13, 0x2000_0001)?, Err((2, 13)));
     // a bit too many, and too few nodes stand
-    assert_eq!(rt; told_of(&rt, &[0x1000_0001, UNITE + 1])?, Err((3, 1)));
+    assert_eq!(rt; read_words(&rt, &[0x1000_0001, UNITE + 1])?, Err((3, 1)));
     // nothing stands that could be inexact
-    assert_eq!(rt; told_of(&rt, &[0x1000_0002, THICKEN, ZERO])?, Err((9, 1)));
+    assert_eq!(rt;
+        read_words(&rt, &[0x1000_0002, THICKEN, ZERO])?,
+        Err((9, 1))
+    );
     Ok(())
 }
 
@@ -310,7 +313,7 @@ fn chain(
         words.extend_from_slice(node)?;
     }
     words.extend_from_slice(last)?;
-    told_of(rt, &words)
+    read_words(rt, &words)
 }
 
 /// A ball, and then so many nodes of these words, under a start word.
@@ -381,7 +384,7 @@ fn boxes(rt: &HostRuntime, start: u32, times: u32) -> Result<Answer<u32>, Fail> 
     for _ in 0..times {
         words.extend_from_slice(&[BOX, ZERO, ZERO, ZERO, ZERO, ZERO, ZERO])?;
     }
-    told_of(rt, &words)
+    read_words(rt, &words)
 }
 
 #[test]

@@ -15,7 +15,7 @@ const SURFACE: [u32; 5] = [
 ];
 
 /// Whether a surface is read, or else the number and the place of its refusal.
-fn told(bytes: &[u8], buffer: &mut [i16]) -> Answer<()> {
+fn read(bytes: &[u8], buffer: &mut [i16]) -> Answer<()> {
     answer(read_surface(&mut Reader::new(bytes), buffer).map(|_| ()))
 }
 
@@ -23,7 +23,7 @@ fn told(bytes: &[u8], buffer: &mut [i16]) -> Answer<()> {
 fn heights_go_to_the_caller(rt: HostRuntime) -> Result<(), Fail> {
     let file = file_of(rt.alloc(), &SURFACE)?;
     let mut heights = [7; 5];
-    assert_eq!(rt; told(&file, &mut heights), Ok(()));
+    assert_eq!(rt; read(&file, &mut heights), Ok(()));
     assert_eq!(rt; heights, [3, -32768, 32767, -1, 7]);
     Ok(())
 }
@@ -31,7 +31,7 @@ fn heights_go_to_the_caller(rt: HostRuntime) -> Result<(), Fail> {
 /// Cut at every byte.
 fn cut_everywhere(rt: &impl Abort, file: &[u8], heights: &mut [i16]) -> Result<(), Fail> {
     for n in 0..20 {
-        assert_eq!(rt; told(cut(file, n), heights), Err((1, n / 4)));
+        assert_eq!(rt; read(cut(file, n), heights), Err((1, n / 4)));
     }
     Ok(())
 }
@@ -45,7 +45,7 @@ fn each_height(
 ) -> Result<(), Fail> {
     for place in 1..5 {
         let file = with(rt.alloc(), SURFACE, place, word)?;
-        assert_eq!(rt; told(&file, heights), Err((by, place)));
+        assert_eq!(rt; read(&file, heights), Err((by, place)));
     }
     Ok(())
 }
@@ -65,7 +65,7 @@ fn a_refused_surface_writes_no_height(rt: HostRuntime) -> Result<(), Fail> {
 fn every_kind_at_every_place_of_a_surface(rt: HostRuntime) -> Result<(), Fail> {
     for place in 0..5 {
         for kind in 0..16 {
-            let told_by_rule = match (place, kind) {
+            let expected = match (place, kind) {
                 (0, 9) => Err((13, 0)),
                 (0, _) => Err((2, 0)),
                 (_, 2) => Ok(()),
@@ -73,7 +73,7 @@ fn every_kind_at_every_place_of_a_surface(rt: HostRuntime) -> Result<(), Fail> {
             };
             let file = with(rt.alloc(), SURFACE, place, kind * 0x1000_0000)?;
             let mut heights = [7; 4];
-            assert_eq!(rt; told(&file, &mut heights), told_by_rule);
+            assert_eq!(rt; read(&file, &mut heights), expected);
         }
     }
     Ok(())
@@ -83,7 +83,7 @@ fn every_kind_at_every_place_of_a_surface(rt: HostRuntime) -> Result<(), Fail> {
 fn start(rt: &HostRuntime, word: u32) -> Result<Answer<()>, Fail> {
     let file = with(rt.alloc(), SURFACE, 0, word)?;
     let mut heights = [7; 4];
-    Ok(told(&file, &mut heights))
+    Ok(read(&file, &mut heights))
 }
 
 #[test]
@@ -109,9 +109,9 @@ fn the_kind_comes_before_the_sizes(rt: HostRuntime) -> Result<(), Fail> {
 fn the_buffer_comes_before_the_heights(rt: HostRuntime) -> Result<(), Fail> {
     let file = file_of(rt.alloc(), &[0x9002_0002, 0x3000_0000])?;
     let mut short = [7; 3];
-    assert_eq!(rt; told(&file, &mut short), Err((18, 0)));
+    assert_eq!(rt; read(&file, &mut short), Err((18, 0)));
     let mut enough = [7; 4];
-    assert_eq!(rt; told(&file, &mut enough), Err((2, 1)));
-    assert_eq!(rt; told(cut(&file, 4), &mut enough), Err((1, 1)));
+    assert_eq!(rt; read(&file, &mut enough), Err((2, 1)));
+    assert_eq!(rt; read(cut(&file, 4), &mut enough), Err((1, 1)));
     Ok(())
 }

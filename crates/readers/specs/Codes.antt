@@ -1,9 +1,10 @@
 -- The number and the place of a refused job, scene or surface.
 use Rattle.std.specs.Prelude.{ℕ}
 use Rattle.words.specs.Codes.{word_code, place_as_u32}
-use Rattle.scene.specs.DraftCodes.{draft_code}
+use Rattle.scene.specs.Codes.{draft_code}
 use Rattle.leaves.specs.declared.fault.SurfaceFault.{SurfaceFault}
 use Rattle.leaves.specs.declared.fault.SurfaceFault.TheVariants.{Size as NoSheet, Buffer as FewHeights}
+use Rattle.readers.specs.declared.fault.TheConstants.{CLIP_PLACE}
 use Rattle.readers.specs.declared.fault.JobFault.{JobFault}
 use Rattle.readers.specs.declared.fault.JobFault.TheVariants.{Word, Corners}
 use Rattle.readers.specs.declared.fault.SceneFault.{SceneFault}
@@ -13,7 +14,7 @@ use Rattle.readers.specs.declared.fault.SurfaceReadFault.TheVariants.{Word as Su
 
 abbrev pub job_code : JobFault → ℕ × ℕ
 job_code (Word e) = word_code e
-job_code Corners = (6, 14)
+job_code Corners = (6, CLIP_PLACE)
 
 abbrev pub scene_code : SceneFault → ℕ × ℕ
 scene_code (SceneWord e) = word_code e
@@ -26,7 +27,7 @@ surface_read_code (SurfaceWord e) = word_code e
 surface_read_code Size = (13, 0)
 surface_read_code Buffer = (18, 0)
 
--- what no sheet is made for, is refused for that
-abbrev pub read_fault : SurfaceFault → SurfaceReadFault
-read_fault NoSheet = Size
-read_fault FewHeights = Buffer
+-- the reader's fault for each fault of a surface's size
+abbrev pub surface_read_fault : SurfaceFault → SurfaceReadFault
+surface_read_fault NoSheet = Size
+surface_read_fault FewHeights = Buffer

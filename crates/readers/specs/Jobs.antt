@@ -1,13 +1,18 @@
 -- What a job's words say: a start word, and nineteen numbers, each at its place.
 use Rattle.std.specs.Prelude.{ℕ, ◌+◌, List, ℤ, pos, Ok, Result, unsigned_abs}
 use Rattle.std.specs.Result.{result_map_both}
-use Rattle.lattice.specs.declared.Point.{Point}
-use Rattle.march.specs.declared.view.ViewNumbers.{ViewNumbers}
-use Rattle.words.specs.declared.fault.WordFault.{WordFault}
 use Rattle.refusal.specs.Checks.{and_then, unless}
-use Rattle.words.specs.Reading.{bare_at, number_in, row_at, placement_at, offset_at}
 use Rattle.lattice.specs.Space.{ordered}
+use Rattle.lattice.specs.declared.Point.{Point}
+use Rattle.piles.specs.declared.TheConstants.{LEAST_THICKNESS, MOST_THICKNESS}
+use Rattle.march.specs.declared.view.ViewNumbers.{ViewNumbers}
+use Rattle.march.specs.declared.view.TheConstants.{LEAST_SIDE, MOST_SIDE, MOST_FAR}
+use Rattle.words.specs.declared.fault.WordFault.{WordFault}
+use Rattle.words.specs.declared.kind.Kind.TheVariants as kind
+use Rattle.words.specs.Kinds.{kind_number}
+use Rattle.words.specs.Reading.{bare_at, number_in, row_at, placement_at, offset_at}
 use Rattle.readers.specs.declared.job.Job.{Job}
+use Rattle.readers.specs.declared.fault.TheConstants.{CLIP_PLACE}
 use Rattle.readers.specs.declared.fault.JobFault.{JobFault}
 use Rattle.readers.specs.declared.fault.JobFault.TheVariants.{Word, Corners}
 
@@ -20,43 +25,76 @@ pub record JobNumbers : Type 0 where
   pub hi : Point
 
 abbrev pub job_numbers : Job → JobNumbers
-job_numbers j = record { view = j.view; guard = j.guard; shift = j.shift; lo = j.clip.lo; hi = j.clip.hi }
+job_numbers j = record {
+  view = j.view;
+  guard = j.guard;
+  shift = j.shift;
+  lo = j.clip.lo;
+  hi = j.clip.hi;
+}
 
 abbrev pub numbers_in : Result Job JobFault → Result JobNumbers JobFault
 numbers_in = result_map_both job_numbers (λ e. e)
 
--- three rows: ray, across, down
-unfoldable pub rows_at : List ℕ → (place : ℕ) → Result (ℤ × ℤ × ℤ) WordFault
-rows_at bs k = and_then (row_at bs k) (λ ray. and_then (row_at bs (k + 1)) (λ across. and_then (row_at bs (k + 2)) (λ down. Ok (ray, across, down))))
-
--- width, height and far
-unfoldable pub sizes_at : List ℕ → (place : ℕ) → Result (ℤ × ℤ × ℤ) WordFault
-sizes_at bs k = and_then (number_in bs k (pos 1) (pos 64)) (λ w. and_then (number_in bs (k + 1) (pos 1) (pos 64)) (λ h. and_then (number_in bs (k + 2) (pos 0) (pos 4095)) (λ far. Ok (w, h, far))))
-
--- the view: origin 1 to 3, rows 4 to 6, sizes 7 to 9
-unfoldable pub view_at : List ℕ → Result ViewNumbers WordFault
-view_at bs =
-    and_then (placement_at bs 1) (λ o.
-    and_then (rows_at bs 4) (λ r.
-    and_then (sizes_at bs 7) (λ s.
-    Ok (record { origin = o; ray = r.0; across = r.1; down = r.2; width = s.0; height = s.1; far = s.2 }))))
-
 abbrev pub in_job : {A : Type 0} → Result A WordFault → Result A JobFault
 in_job = result_map_both (λ x. x) Word
 
--- the numbers of the pile: guard 10, the surface's shift 11 to 13, the clip box's corners 14 to 16 and 17 to 19
+-- Where its numbers stand. The start word is at place 0; the view is an origin, three rows and three sizes; the clip box's
+-- lower corner is at CLIP_PLACE.
+abbrev pub origin_place : ℕ
+origin_place = 1
+
+abbrev pub rows_place : ℕ
+rows_place = 4
+
+abbrev pub sizes_place : ℕ
+sizes_place = 7
+
+abbrev pub guard_place : ℕ
+guard_place = 10
+
+abbrev pub shift_place : ℕ
+shift_place = 11
+
+abbrev pub upper_corner_place : ℕ
+upper_corner_place = 17
+
+-- three rows: ray, across, down
+unfoldable pub rows_at : List ℕ → (place : ℕ) → Result (ℤ × ℤ × ℤ) WordFault
+rows_at bs k =
+    and_then (row_at bs k) (λ ray.
+    and_then (row_at bs (k + 1)) (λ across.
+    and_then (row_at bs (k + 2)) (λ down.
+    Ok (ray, across, down))))
+
+-- width, height and far
+unfoldable pub sizes_at : List ℕ → (place : ℕ) → Result (ℤ × ℤ × ℤ) WordFault
+sizes_at bs k =
+    and_then (number_in bs k LEAST_SIDE MOST_SIDE) (λ width.
+    and_then (number_in bs (k + 1) LEAST_SIDE MOST_SIDE) (λ height.
+    and_then (number_in bs (k + 2) (pos 0) MOST_FAR) (λ far.
+    Ok (width, height, far))))
+
+unfoldable pub view_at : List ℕ → Result ViewNumbers WordFault
+view_at bs =
+    and_then (placement_at bs origin_place) (λ o.
+    and_then (rows_at bs rows_place) (λ r.
+    and_then (sizes_at bs sizes_place) (λ s.
+    Ok (record { origin = o; ray = r.0; across = r.1; down = r.2; width = s.0; height = s.1; far = s.2 }))))
+
+-- the numbers of the pile: the guard, the surface's shift, the clip box's corners
 unfoldable pub pile_at : List ℕ → Result (ℤ × Point × Point × Point) WordFault
 pile_at bs =
-    and_then (number_in bs 10 (pos 0) (pos 1023)) (λ guard.
-    and_then (offset_at bs 11) (λ shift.
-    and_then (placement_at bs 14) (λ lo.
-    and_then (placement_at bs 17) (λ hi.
+    and_then (number_in bs guard_place LEAST_THICKNESS MOST_THICKNESS) (λ guard.
+    and_then (offset_at bs shift_place) (λ shift.
+    and_then (placement_at bs CLIP_PLACE) (λ lo.
+    and_then (placement_at bs upper_corner_place) (λ hi.
     Ok (guard, shift, lo, hi)))))
 
--- the whole job: its start word is of kind 13, at place 0; lo is to be above hi on no axis, which is looked at last
+-- the whole job; that lo is above hi on no axis is looked at last
 unfoldable pub job_of : List ℕ → Result JobNumbers JobFault
 job_of bs =
-    and_then (in_job (bare_at bs 0 13 13)) (λ _.
+    and_then (in_job (bare_at bs 0 (kind_number kind.Job) (kind_number kind.Job))) (λ _.
     and_then (in_job (view_at bs)) (λ view.
     and_then (in_job (pile_at bs)) (λ pile.
     unless (ordered pile.2 pile.3) Corners

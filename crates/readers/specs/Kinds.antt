@@ -1,31 +1,50 @@
 -- The kinds of nodes, by the kinds of their words.
-use Rattle.std.specs.Prelude.{ℕ, cond, ◌&&◌, Ok, Err, Result, ◌==◌, nat_le}
+use Rattle.std.specs.Prelude.{ℕ, List, [], ◌∷◌, Option, Result, ◌==◌, find, ok_or, unwrap_or}
+use Rattle.words.specs.declared.kind.Kind.{Kind}
+use Rattle.words.specs.declared.kind.Kind.TheVariants as word
 use Rattle.words.specs.declared.kind.UnknownKind.{UnknownKind}
+use Rattle.words.specs.Kinds.{kind_number}
 use Rattle.readers.specs.declared.kind.NodeKind.{NodeKind}
 use Rattle.readers.specs.declared.kind.NodeKind.TheVariants.{Ball, Block, Unite, Meet, Shift, Thicken}
 
--- a node's word is of a kind from 3 to 8
-abbrev pub kind_of : ℕ → NodeKind
-kind_of n = cond (n == 3) Ball (cond (n == 4) Block (cond (n == 5) Unite (cond (n == 6) Meet (cond (n == 7) Shift Thicken))))
+-- the kind of its word
+abbrev pub word_kind : NodeKind → Kind
+word_kind Ball = word.Ball
+word_kind Block = word.Block
+word_kind Unite = word.Unite
+word_kind Meet = word.Meet
+word_kind Shift = word.Shift
+word_kind Thicken = word.Thicken
 
--- the kind of a node by a word's kind; or that kind, which no node has
+abbrev pub node_kinds : List NodeKind
+node_kinds = Ball ∷ Block ∷ Unite ∷ Meet ∷ Shift ∷ Thicken ∷ []
+
+-- the kind of a node by the number of its word's kind
+abbrev pub kind_named : ℕ → Option NodeKind
+kind_named n = find (λ kind. kind_number (word_kind kind) == n) node_kinds
+
+-- that kind; or the number, which no node has
 abbrev pub node_kind : ℕ → Result NodeKind UnknownKind
-node_kind n = cond (nat_le 3 n && nat_le n 8) (Ok (kind_of n)) (Err (record { 0 = n }))
+node_kind n = ok_or (kind_named n) (record { 0 = n })
+
+-- that kind, where the number is known to be a node's
+abbrev pub kind_of : ℕ → NodeKind
+kind_of n = unwrap_or (kind_named n) Thicken
 
 -- how many numbers follow it
-abbrev pub numbers : NodeKind → ℕ
-numbers Ball = 4
-numbers Block = 6
-numbers Unite = 0
-numbers Meet = 0
-numbers Shift = 3
-numbers Thicken = 1
+abbrev pub number_count : NodeKind → ℕ
+number_count Ball = 4
+number_count Block = 6
+number_count Unite = 0
+number_count Meet = 0
+number_count Shift = 3
+number_count Thicken = 1
 
 -- how many standing nodes it takes
-abbrev pub takes : NodeKind → ℕ
-takes Ball = 0
-takes Block = 0
-takes Unite = 2
-takes Meet = 2
-takes Shift = 1
-takes Thicken = 1
+abbrev pub nodes_taken : NodeKind → ℕ
+nodes_taken Ball = 0
+nodes_taken Block = 0
+nodes_taken Unite = 2
+nodes_taken Meet = 2
+nodes_taken Shift = 1
+nodes_taken Thicken = 1

@@ -2,7 +2,7 @@
 ghost use Rattle.std.specs.Prelude.{◌≡◌, Some};
 ghost use Rattle.refusal.specs.Texts.{refusal_text};
 ghost use Rattle.words.specs.Codes.{place_as_u32};
-ghost use Rattle.readers.specs.Codes.{job_code, scene_code, surface_read_code, read_fault};
+ghost use Rattle.readers.specs.Codes.{job_code, scene_code, surface_read_code, surface_read_fault};
 ghost use Rattle.readers.specs.declared.fault.JobFault.TheVariants.{Word as JobWord};
 ghost use Rattle.readers.specs.declared.fault.SceneFault.TheVariants.{Word as SceneWord};
 ghost use Rattle.readers.specs.declared.fault.SurfaceReadFault.TheVariants.{Word as SurfaceWord};
@@ -68,7 +68,8 @@ pub enum SceneFault {
     Count,
     /// 12: the numbers of the node at this place pass the count.
     Numbers { place: usize },
-    /// The node at this place is not laid down; or, at the last word's place, more than one stands.
+    /// The node at this place is not laid down; or, at the last word's place, it is not one node
+    /// alone that stands.
     Node { fault: DraftFault, place: usize },
 }
 
@@ -148,7 +149,7 @@ impl fmt::Display for SurfaceReadFault {
 }
 
 impl From<SurfaceFault> for SurfaceReadFault {
-    ghost from_gives = { λ e r. r ≡ read_fault e };
+    ghost from_gives = { λ e r. r ≡ surface_read_fault e };
 
     fn from(fault: SurfaceFault) -> SurfaceReadFault {
         match fault {

@@ -1,8 +1,8 @@
 //! The kinds of nodes.
 ghost use Rattle.std.specs.Prelude.{◌≡◌};
-ghost use Rattle.readers.specs.Kinds.{node_kind, numbers, takes};
+ghost use Rattle.readers.specs.Kinds.{node_kind, number_count, nodes_taken};
 
-use words::{Kind as Word, UnknownKind};
+use words::{Kind as WordKind, UnknownKind};
 
 /// What a node is, by the kind of its word.
 #[derive(Clone, Copy, PartialEq, Eq, Debug)]
@@ -21,13 +21,13 @@ impl TryFrom<u32> for NodeKind {
     ghost try_from_gives = { λ n r. r ≡ node_kind n };
 
     fn try_from(n: u32) -> Result<NodeKind, UnknownKind> {
-        match Word::try_from(n)? {
-            Word::Ball => Ok(NodeKind::Ball),
-            Word::Block => Ok(NodeKind::Block),
-            Word::Unite => Ok(NodeKind::Unite),
-            Word::Meet => Ok(NodeKind::Meet),
-            Word::Shift => Ok(NodeKind::Shift),
-            Word::Thicken => Ok(NodeKind::Thicken),
+        match WordKind::try_from(n)? {
+            WordKind::Ball => Ok(NodeKind::Ball),
+            WordKind::Block => Ok(NodeKind::Block),
+            WordKind::Unite => Ok(NodeKind::Unite),
+            WordKind::Meet => Ok(NodeKind::Meet),
+            WordKind::Shift => Ok(NodeKind::Shift),
+            WordKind::Thicken => Ok(NodeKind::Thicken),
             _ => Err(UnknownKind(n)),
         }
     }
@@ -35,8 +35,8 @@ impl TryFrom<u32> for NodeKind {
 
 impl NodeKind {
     /// How many numbers follow the node's word.
-    pub(crate) fn numbers(self) -> usize
-        ensures { result ≡ numbers self }
+    pub(crate) fn number_count(self) -> usize
+        ensures { result ≡ number_count self }
     {
         match self {
             NodeKind::Ball => 4,
@@ -48,8 +48,8 @@ impl NodeKind {
     }
 
     /// How many standing nodes it takes.
-    pub(crate) fn takes(self) -> usize
-        ensures { result ≡ takes self }
+    pub(crate) fn nodes_taken(self) -> usize
+        ensures { result ≡ nodes_taken self }
     {
         match self {
             NodeKind::Ball | NodeKind::Block => 0,

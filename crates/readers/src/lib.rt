@@ -9,8 +9,8 @@ mod scenes;
 mod surfaces;
 
 pub use fault::{JobFault, SceneFault, SurfaceReadFault};
-pub use job::Job;
+pub use job::{JOB_WORDS, Job};
 pub use jobs::read_job;
 pub use kind::NodeKind;
 pub use scenes::read_scene;
-pub use surfaces::{MOST_HEIGHTS, read_surface};
+pub use surfaces::read_surface;

@@ -1,6 +1,6 @@
 pub mod Checks
+pub mod Codes
 pub mod Numbers
-pub mod Pairs
 pub mod Ranges
 pub mod Sentences
 pub mod Texts

@@ -3,10 +3,6 @@ use Rattle.std.specs.Prelude.{ℕ, Bool, if◌then◌else◌, ◌&&◌, ℤ, int
 use Rattle.std.specs.Result.{result_map_both}
 use Rattle.refusal.specs.declared.range.OutOfRange.{OutOfRange}
 
--- the number and the place of the refusal
-abbrev pub range_code : OutOfRange → ℕ × ℕ
-range_code fault = (4, fault.place)
-
 -- does n lie in least..most?
 abbrev pub between : (least most n : ℤ) → Bool
 between least most n = int_le least n && int_le n most

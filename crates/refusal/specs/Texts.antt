@@ -21,6 +21,6 @@ sentence_in None = codes "there is no such rule"
 
 -- the number and the place of a refusal, and why
 unfoldable pub refusal_text : ℕ × ℕ → List ℕ
-refusal_text told =
-    codes "refused by " ++ decimal told.0 ++ codes " at place " ++ decimal told.1 ++ codes ": "
-    ++ sentence_in (rule_of told.0)
+refusal_text code =
+    codes "refused by " ++ decimal code.0 ++ codes " at place " ++ decimal code.1 ++ codes ": "
+    ++ sentence_in (rule_of code.0)

@@ -1,6 +1,6 @@
-//! A refusal as it is told.
+//! A refusal by its number and place.
 ghost use Rattle.std.specs.Prelude.{◌≡◌, Some};
-ghost use Rattle.refusal.specs.Pairs.{pair};
+ghost use Rattle.refusal.specs.Codes.{pair};
 ghost use Rattle.refusal.specs.Texts.{rule_of, sentence_in, refusal_text};
 
 use super::{Refusal, Rule};
@@ -13,18 +13,8 @@ pub struct RefusalCode {
     pub place: u32,
 }
 
-/// What the rule of that number says; there may be none.
-fn sentence_of(number: u32) -> &'static str
-    ensures { result.now ≡ sentence_in (rule_of number) }
-{
-    match Rule::of(number) {
-        Some(rule) => rule.sentence(),
-        None => "there is no such rule",
-    }
-}
-
 impl RefusalCode {
-    /// What is told of a fault.
+    /// The number and the place of a fault.
     pub fn of<F: Refusal>(fault: &F) -> RefusalCode
         ensures { pair result ≡ F.code fault.now }
     {
@@ -33,15 +23,25 @@ impl RefusalCode {
             place: fault.place(),
         }
     }
+
+    /// What the rule of that number says; there may be none.
+    fn sentence(&self) -> &'static str
+        ensures { result.now ≡ sentence_in (rule_of self.now.number) }
+    {
+        match Rule::of(self.number) {
+            Some(rule) => rule.sentence(),
+            None => "there is no such rule",
+        }
+    }
 }
 
 impl fmt::Display for RefusalCode {
-    ghost output = { λ told. Some (refusal_text (pair told)) };
+    ghost output = { λ code. Some (refusal_text (pair code)) };
 
     #[tactic(auto, unfolding(crate::specs::Texts::refusal_text))]
     fn fmt<W: fmt::Write>(&self, f: &mut fmt::Formatter<W>) -> fmt::Result {
         let RefusalCode { number, place } = *self;
-        let sentence = sentence_of(number);
+        let sentence = self.sentence();
         write!(f, "refused by {number} at place {place}: {sentence}")
     }
 }

@@ -94,7 +94,7 @@ impl Rule {
         RULES.iter().copied().find(|rule| rule.number() == number)
     }
 
-    /// The number under which a breach of the rule is told.
+    /// The number by which a refused call names the rule.
     pub fn number(self) -> u32
         ensures { result ≡ rule_number self }
     {
@@ -132,7 +132,7 @@ impl Rule {
 }
 
 /// What a refused call answers. Every enum of faults gives, for each of its cases, the number
-/// of the rule that was broken and the place of the input that broke it; `told` is that pair.
+/// of the rule that was broken and the place of the input that broke it; `code` is that pair.
 /// A place counts words or numbers of the input; where there is nothing to count it is 0.
 pub trait Refusal {
     ghost code: { Self → ℕ × ℕ };

@@ -1,6 +1,7 @@
 //! Numbers that have to lie in a range.
 ghost use Rattle.std.specs.Prelude.{◌≡◌, Some};
-ghost use Rattle.refusal.specs.Ranges.{in_range, count_in, range_code};
+ghost use Rattle.refusal.specs.Codes.{range_code};
+ghost use Rattle.refusal.specs.Ranges.{in_range, count_in};
 ghost use Rattle.refusal.specs.Texts.{refusal_text};
 
 use super::{Refusal, RefusalCode, Rule};

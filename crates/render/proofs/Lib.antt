@@ -1,8 +1,8 @@
 pub mod Views
 pub mod Sweeps
 pub mod Shots
-pub mod Stacks
-pub mod Heaps
+pub mod PileBodies
+pub mod JobPiles
 pub mod Parts
 pub mod Wholes
 pub mod Order

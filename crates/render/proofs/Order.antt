@@ -8,7 +8,7 @@ use Rattle.solid.specs.Body.{Body}
 use Rattle.words.specs.declared.fault.WordFault.{WordFault}
 use Rattle.words.specs.declared.fault.WordFault.TheVariants.{Short, Kind as Odd, Unnamed, Range, Row}
 use Rattle.refusal.specs.Checks.{and_then, unless}
-use Rattle.words.specs.Reading.{word_at, kind_at, bare_at, number_at, number_in, row_at, point_at}
+use Rattle.words.specs.Reading.{word_at, kind_at, rest_at, bare_at, number_at, number_in, row_at, point_at}
 use Rattle.words.specs.Codes.{word_code}
 use Rattle.readers.specs.declared.fault.JobFault.{JobFault}
 use Rattle.readers.specs.declared.fault.JobFault.TheVariants.{Word as job_word, Corners}
@@ -20,11 +20,11 @@ use Rattle.readers.specs.declared.fault.SceneFault.{SceneFault}
 use Rattle.readers.specs.declared.fault.SceneFault.TheVariants.{Word as scene_word, Count, Numbers, Node}
 use Rattle.readers.specs.declared.kind.NodeKind.{NodeKind}
 use Rattle.readers.specs.declared.kind.NodeKind.TheVariants.{Ball, Block, Unite, Meet, Shift, Thicken}
-use Rattle.readers.specs.Scenes.{in_scene, lay_at, node_at, end_answer, nodes_from, count_of, scene_of}
+use Rattle.readers.specs.Scenes.{in_scene, lay_at, node_at, end_answer, nodes_from, scene_length, scene_of}
 use Rattle.render.specs.declared.fault.InputFault.{InputFault}
 use Rattle.render.specs.declared.fault.InputFault.TheVariants.{Job as of_job, Scene as of_scene, Surface as of_surface, Left as left, Inexact, Shallow}
 use Rattle.render.specs.Codes.{input_code}
-use Rattle.render.specs.Models.{Model, bytes_from, parts_of, pile_of, check_whole, parse}
+use Rattle.render.specs.Models.{Model, bytes_from, unchecked_model, pile_of, checked_model, input_model, after_job, after_scene, after_surface}
 use Rattle.render.specs.Laws.{InOrder}
 
 -- what becomes of an answer: it stays, unless it says that a word was cut short
@@ -80,6 +80,9 @@ module _ (bs more : List ℕ) where
   kind_grows : (k least most : ℕ) → Grows cut_word (kind_at bs k least most) (kind_at (bs ++ more) k least most)
   unfolding kind_at
   kind_grows k least most = then_grows cut_word (word_at bs k) (word_at (bs ++ more) k) _ _ (word_grows k) (λ w. stays cut_word _)
+
+  rest_grows : (k kind : ℕ) → Grows cut_word (rest_at bs k kind) (rest_at (bs ++ more) k kind)
+  rest_grows k kind = then_grows cut_word _ _ _ _ (kind_grows k kind kind) (λ w. refl)
 
   bare_grows : (k least most : ℕ) → Grows cut_word (bare_at bs k least most) (bare_at (bs ++ more) k least most)
   unfolding bare_at
@@ -193,9 +196,9 @@ module _ (bs more : List ℕ) where
       by rest false = stays cut_scene _
 
   scene_grows : Grows cut_scene (scene_of bs) (scene_of (bs ++ more))
-  unfolding scene_of count_of
+  unfolding scene_of scene_length
   scene_grows =
-      then_grows cut_scene _ _ _ _ (then_grows cut_scene _ _ _ _ (in_a_scene _ _ (kind_grows bs more 0 1 1)) (λ w. stays cut_scene _)) (λ n.
+      then_grows cut_scene _ _ _ _ (then_grows cut_scene _ _ _ _ (in_a_scene _ _ (rest_grows bs more 0 1)) (λ w. stays cut_scene _)) (λ n.
       then_grows cut_scene _ _ _ _ (nodes_grow n n 1 0 []) (λ b. refl))
 
 -- the surface
@@ -217,7 +220,7 @@ heights_grow bs more k (suc n) =
 sheet_grows : (bs more : List ℕ) (room : ℕ) → Grows cut_sheet (surface_of bs room) (surface_of (bs ++ more) room)
 unfolding surface_of size_of
 sheet_grows bs more room =
-    then_grows cut_sheet _ _ _ _ (then_grows cut_sheet _ _ _ _ (in_a_sheet _ _ (kind_grows bs more 0 9 9)) (λ w. stays cut_sheet _)) (λ s.
+    then_grows cut_sheet _ _ _ _ (then_grows cut_sheet _ _ _ _ (in_a_sheet _ _ (rest_grows bs more 0 9)) (λ w. stays cut_sheet _)) (λ s.
     then_grows cut_sheet _ _ _ _ (in_a_sheet _ _ (heights_grow bs more 1 (s.width * s.depth))) (λ hs. refl))
 
 -- a part that begins after n words
@@ -234,17 +237,17 @@ past_grows cut P h e none c n bs more = elim (cases_lt (length bs) (4 * n)) [ in
     within l = subst⁻¹ (λ (xs : List ℕ). Grows cut (P (bytes_from n bs)) (P xs)) (drop-append-le (4 * n) bs more l) (h (bytes_from n bs) more)
 
 no_scene_there : scene_of [] ≡ Err (scene_word (Short 0))
-unfolding scene_of count_of kind_at word_at
+unfolding scene_of scene_length kind_at word_at
 no_scene_there = refl
 
 no_sheet_there : surface_of [] 4096 ≡ Err (sheet_word (Short 0))
 unfolding surface_of size_of kind_at word_at
 no_sheet_there = refl
 
-scene_past : (bs more : List ℕ) → Grows cut_scene (scene_of (bytes_from 20 bs)) (scene_of (bytes_from 20 (bs ++ more)))
+scene_past : (bs more : List ℕ) → Grows cut_scene (scene_of (after_job bs)) (scene_of (after_job (bs ++ more)))
 scene_past bs more = past_grows cut_scene scene_of scene_grows (scene_word (Short 0)) no_scene_there refl 20 bs more
 
-sheet_past : (n : ℕ) (bs more : List ℕ) → Grows cut_sheet (surface_of (bytes_from (1 + n) (bytes_from 20 bs)) 4096) (surface_of (bytes_from (1 + n) (bytes_from 20 (bs ++ more))) 4096)
+sheet_past : (n : ℕ) (bs more : List ℕ) → Grows cut_sheet (surface_of (after_scene n bs) 4096) (surface_of (after_scene n (bs ++ more)) 4096)
 sheet_past n bs more =
     past_grows cut_sheet (λ xs. surface_of (bytes_from (1 + n) xs) 4096)
     (past_grows cut_sheet (λ xs. surface_of xs 4096) (λ xs ys. sheet_grows xs ys 4096) (sheet_word (Short 0)) no_sheet_there refl (1 + n))
@@ -275,18 +278,18 @@ last_keeps a b m h = by (eqb a 0) refl
     by true e = tt
     by false e = λ _. let some : 0 < b = h (omega (arith, eqb-false a 0 e)) in cond-false (eqb b 0) _ _ (ne_eqb b 0 (λ z. omega arith))
 
-longer : (k n : ℕ) (bs more : List ℕ) → 0 < length (bytes_from k (bytes_from n (bytes_from 20 bs))) → 0 < length (bytes_from k (bytes_from n (bytes_from 20 (bs ++ more))))
+longer : (k n : ℕ) (bs more : List ℕ) → 0 < length (bytes_from k (bytes_from n (after_job bs))) → 0 < length (bytes_from k (bytes_from n (after_job (bs ++ more))))
 longer k n bs more h =
     let cs = bs ++ more in
-    omega (arith, h, length-append bs more, length-drop 80 bs, length-drop (4 * n) (bytes_from 20 bs), length-drop (4 * k) (bytes_from n (bytes_from 20 bs)), length-drop 80 cs, length-drop (4 * n) (bytes_from 20 cs), length-drop (4 * k) (bytes_from n (bytes_from 20 cs)))
+    omega (arith, h, length-append bs more, length-drop 80 bs, length-drop (4 * n) (after_job bs), length-drop (4 * k) (bytes_from n (after_job bs)), length-drop 80 cs, length-drop (4 * n) (after_job cs), length-drop (4 * k) (bytes_from n (after_job cs)))
 
-parts_keep : (bs more : List ℕ) → Keeps (parts_of bs) (parts_of (bs ++ more))
-unfolding parts_of
+parts_keep : (bs more : List ℕ) → Keeps (unchecked_model bs) (unchecked_model (bs ++ more))
+unfolding unchecked_model
 parts_keep bs more =
     then_keeps cut_job of_job (λ e. refl) (job_of bs) (job_of (bs ++ more)) _ _ (job_grows bs more) (λ job.
-    then_keeps cut_scene of_scene (λ e. refl) (scene_of (bytes_from 20 bs)) (scene_of (bytes_from 20 (bs ++ more))) _ _ (scene_past bs more) (λ scene.
-    then_keeps cut_sheet of_surface (λ e. refl) (surface_of (bytes_from (1 + scene.0) (bytes_from 20 bs)) 4096) (surface_of (bytes_from (1 + scene.0) (bytes_from 20 (bs ++ more))) 4096) _ _ (sheet_past scene.0 bs more) (λ sheet.
-    last_keeps (length (bytes_from (1 + sheet.0.width * sheet.0.depth) (bytes_from (1 + scene.0) (bytes_from 20 bs)))) (length (bytes_from (1 + sheet.0.width * sheet.0.depth) (bytes_from (1 + scene.0) (bytes_from 20 (bs ++ more)))))
+    then_keeps cut_scene of_scene (λ e. refl) (scene_of (after_job bs)) (scene_of (after_job (bs ++ more))) _ _ (scene_past bs more) (λ scene.
+    then_keeps cut_sheet of_surface (λ e. refl) (surface_of (after_scene scene.0 bs) 4096) (surface_of (after_scene scene.0 (bs ++ more)) 4096) _ _ (sheet_past scene.0 bs more) (λ sheet.
+    last_keeps (length (after_surface (sheet.0.width * sheet.0.depth) scene.0 bs)) (length (after_surface (sheet.0.width * sheet.0.depth) scene.0 (bs ++ more)))
     _ (longer (1 + sheet.0.width * sheet.0.depth) (1 + scene.0) bs more))))
 
 -- a word that is cut short is refused by 1
@@ -318,10 +321,10 @@ after_all true false m e h = let is : e ≡ Shallow = cc in inr (ap (λ (e : Inp
 after_all true true m e h = let z : ◌≡◌ {A = ℕ} 0 1 = cc in absurd (omega arith)
 
 pub in_order : InOrder
-in_order bs more e h one fifteen sixteen = by (parts_of bs) refl h (parts_keep bs more)
+in_order bs more e h one fifteen sixteen = by (unchecked_model bs) refl h (parts_keep bs more)
   where
-    by : (p : Result Model InputFault) → parts_of bs ≡ p → and_then p check_whole ≡ Err e → Keeps p (parts_of (bs ++ more)) → parse (bs ++ more) ≡ Err e
+    by : (p : Result Model InputFault) → unchecked_model bs ≡ p → and_then p checked_model ≡ Err e → Keeps p (unchecked_model (bs ++ more)) → input_model (bs ++ more) ≡ Err e
     by (Ok m) is h k = elim (after_all (eqb m.job.guard 0 || m.scene.exact) (leb 32767 (pile_of m).reach) m e h) [ inl z ↦ absurd (fifteen z) | inr z ↦ absurd (sixteen z) ]
     by (Err d) is h k =
         let same : d ≡ e = cc in
-        ap (λ (p : Result Model InputFault). and_then p check_whole) (k (ap cut_input same ∙ not_cut e one) ∙ ap Err same)
+        ap (λ (p : Result Model InputFault). and_then p checked_model) (k (ap cut_input same ∙ not_cut e one) ∙ ap Err same)

@@ -1,26 +1,28 @@
 -- The parts of an input, read one after another.
-use Rattle.std.proofs.Common.{◌≡◌, ℕ, zero, suc, ◌+◌, ◌-◌, ◌*◌, ◌/◌, ◌%◌, ◌≤◌, true, false, ◌&&◌, eqb, leb, List, [], ◌∷◌, ◌++◌, length, take, drop, ℤ, Ok, Err, Result, sym, ap, ◌∙◌, subst, arith, length-drop, MatchResult}
+use Rattle.std.proofs.Common.{◌≡◌, ℕ, zero, suc, ◌+◌, ◌-◌, ◌*◌, ◌/◌, ◌%◌, ◌≤◌, true, false, ◌&&◌, eqb, leb, List, [], ◌∷◌, ◌++◌, length, take, drop, ℤ, pos, Ok, Err, Result, sym, ap, ◌∙◌, subst, arith, length-drop, MatchResult}
 use Rattle.std.specs.Result.{result_map_both}
 use Rattle.std.proofs.lemmas.List.{take_at}
 use Rattle.solid.specs.Body.{Body}
 use Rattle.words.specs.declared.reader.Reader.{Reader}
 use Rattle.words.specs.Cursor.{text, place, bytes_left, Begun}
 use Rattle.refusal.specs.Checks.{and_then, unless}
-use Rattle.words.specs.Reading.{number_at, kind_at}
+use Rattle.words.specs.Reading.{number_at, rest_at}
 use Rattle.readers.specs.declared.job.Job.{Job}
 use Rattle.readers.specs.declared.fault.JobFault.{JobFault}
 use Rattle.leaves.specs.declared.surface.SurfaceSize.{SurfaceSize}
 use Rattle.readers.specs.declared.fault.SurfaceReadFault.{SurfaceReadFault}
 use Rattle.readers.specs.Jobs.{JobNumbers, job_numbers, job_of}
-use Rattle.readers.specs.Surfaces.{in_surface, size_of, heights_at, surface_of, put_into, size_answer, side}
+use Rattle.readers.specs.Surfaces.{in_surface, size_of, heights_at, surface_of, put_into, size_answer}
 use Rattle.readers.specs.declared.fault.SceneFault.{SceneFault}
-use Rattle.readers.specs.Scenes.{in_scene, nodes_from, count_of, scene_of, put_scene}
+use Rattle.readers.specs.Scenes.{in_scene, nodes_from, scene_length, scene_of, put_scene}
 use Rattle.readers.specs.declared.fault.SceneFault.TheVariants.{Count}
-use Rattle.readers.specs.declared.fault.SurfaceReadFault.TheVariants.{Size, Buffer}
+use Rattle.leaves.specs.declared.fault.SurfaceFault.TheVariants.{Size, Buffer}
+use Rattle.leaves.specs.Surface.{is_side, size_made}
+use Rattle.readers.specs.Codes.{surface_read_fault}
 use Rattle.std.proofs.lemmas.Bool.{and_parts, leb-true, eqb-true, cond-true, cond-false}
 use Rattle.words.proofs.Chains.{first_ok, test_held, same_ok}
 use Rattle.render.specs.declared.fault.InputFault.TheVariants.{Job as of_job, Scene as of_scene, Surface as of_surface, Left as left}
-use Rattle.render.specs.Models.{Model, bytes_from, parts_of}
+use Rattle.render.specs.Models.{Model, bytes_from, unchecked_model, after_job, after_scene, after_surface}
 use Rattle.render.specs.Steps.{model_of}
 
 -- where a reader stands
@@ -83,9 +85,10 @@ pub record Sound (s : SurfaceSize) (hs : List ℤ) : Type 0 where
 
 sized_sound : (w d room : ℕ) (s : SurfaceSize) → size_answer w d room ≡ Ok s → ((1 ≤ s.width) × (s.width ≤ 64) × (1 ≤ s.depth) × (s.depth ≤ 64)) × (s.width * s.depth ≤ room)
 sized_sound w d room s e =
-    let a = test_held (side w && side d) Size _ s e in
+    let m = mapped_ok surface_read_fault (size_made (pos w) (pos d) room) s e in
+    let a = test_held (is_side (pos w) && is_side (pos d)) Size _ s m in
     let b = test_held (leb (w * d) room) Buffer _ s a.1 in
-    let h = and_parts (side w) (side d) a.0 in
+    let h = and_parts (is_side (pos w)) (is_side (pos d)) a.0 in
     let x = and_parts (leb 1 w) (leb w 64) h.0 in
     let y = and_parts (leb 1 d) (leb d 64) h.1 in
     let l = leb-true (w * d) room b.0 in
@@ -97,72 +100,72 @@ surface_sound bs s hs e =
     let a = first_ok (size_of bs 4096) _ (s, hs) e in
     let b = first_ok (in_surface (heights_at bs 1 (a.0.width * a.0.depth))) _ (s, hs) a.1.1 in
     let same = same_ok {A = SurfaceSize × List ℤ} (a.0, b.0) (s, hs) b.1.1 in
-    let w = first_ok (in_surface (kind_at bs 0 9 9)) _ a.0 a.1.0 in
-    let z = sized_sound (w.0.1 / 65536) (w.0.1 % 65536) 4096 a.0 w.1.1 in
+    let w = first_ok (in_surface (rest_at bs 0 9)) _ a.0 a.1.0 in
+    let z = sized_sound (w.0 / 65536) (w.0 % 65536) 4096 a.0 w.1.1 in
     let l = heights_long bs 1 (a.0.width * a.0.depth) b.0 (mapped_ok _ (heights_at bs 1 (a.0.width * a.0.depth)) b.0 b.1.0) in
     subst (λ (p : SurfaceSize × List ℤ). Sound p.0 p.1) same (record { sides = z.0; few = z.1; long = l })
 
 -- a scene counts its words
 pub scene_short : (bs : List ℕ) (n : ℕ) (b : Body) → scene_of bs ≡ Ok (n, b) → n ≤ 1792
-unfolding scene_of count_of
+unfolding scene_of scene_length
 scene_short bs n b e =
-    let a = first_ok (count_of bs) _ (n, b) e in
-    let w = first_ok (in_scene (kind_at bs 0 1 1)) _ a.0 a.1.0 in
-    let c = test_held (leb 1 w.0.1 && leb w.0.1 1792) Count _ a.0 w.1.1 in
+    let a = first_ok (scene_length bs) _ (n, b) e in
+    let w = first_ok (in_scene (rest_at bs 0 1)) _ a.0 a.1.0 in
+    let c = test_held (leb 1 w.0 && leb w.0 1792) Count _ a.0 w.1.1 in
     let d = first_ok (nodes_from a.0 bs a.0 1 0 []) _ (n, b) a.1.1 in
     let same = same_ok {A = ℕ × Body} (a.0, d.0) (n, b) d.1.1 in
-    let k : w.0.1 ≤ 1792 = leb-true w.0.1 1792 (and_parts (leb 1 w.0.1) (leb w.0.1 1792) c.0).1 in
-    let l : a.0 ≤ 1792 = subst (λ (m : ℕ). m ≤ 1792) (same_ok w.0.1 a.0 c.1) k in
+    let k : w.0 ≤ 1792 = leb-true w.0 1792 (and_parts (leb 1 w.0) (leb w.0 1792) c.0).1 in
+    let l : a.0 ≤ 1792 = subst (λ (m : ℕ). m ≤ 1792) (same_ok w.0 a.0 c.1) k in
     subst (λ (p : ℕ × Body). p.0 ≤ 1792) same l
 
 -- the parts of an input, from those that were read
 pub record Three (bs : List ℕ) (m : Model) : Type 0 where
   pub count : ℕ
   pub job : job_of bs ≡ Ok m.job
-  pub scene : scene_of (bytes_from 20 bs) ≡ Ok (count, m.scene)
-  pub sheet : surface_of (bytes_from (1 + count) (bytes_from 20 bs)) 4096 ≡ Ok (record { width = m.width; depth = m.depth }, m.heights)
+  pub scene : scene_of (after_job bs) ≡ Ok (count, m.scene)
+  pub sheet : surface_of (after_scene count bs) 4096 ≡ Ok (record { width = m.width; depth = m.depth }, m.heights)
 
 abbrev pub tail : (bs : List ℕ) (m : Model) → Three bs m → List ℕ
-tail bs m t = bytes_from (1 + m.width * m.depth) (bytes_from (1 + t.count) (bytes_from 20 bs))
+tail bs m t = after_surface (m.width * m.depth) t.count bs
 
-pub from_three : (bs : List ℕ) (m : Model) (t : Three bs m) → parts_of bs ≡ unless (eqb (length (tail bs m t)) 0) left (Ok m)
-unfolding parts_of
-from_three bs m t = then_is of_job (job_of bs) _ m.job t.job ∙ then_is of_scene (scene_of (bytes_from 20 bs)) _ (t.count, m.scene) t.scene ∙ then_is of_surface (surface_of (bytes_from (1 + t.count) (bytes_from 20 bs)) 4096) _ (record { width = m.width; depth = m.depth }, m.heights) t.sheet
+pub from_three : (bs : List ℕ) (m : Model) (t : Three bs m) → unchecked_model bs ≡ unless (eqb (length (tail bs m t)) 0) left (Ok m)
+unfolding unchecked_model
+from_three bs m t = then_is of_job (job_of bs) _ m.job t.job ∙ then_is of_scene (scene_of (after_job bs)) _ (t.count, m.scene) t.scene ∙ then_is of_surface (surface_of (after_scene t.count bs) 4096) _ (record { width = m.width; depth = m.depth }, m.heights) t.sheet
 
-pub no_job : (bs : List ℕ) (e : JobFault) → job_of bs ≡ Err e → parts_of bs ≡ Err (of_job e)
-unfolding parts_of
+pub no_job : (bs : List ℕ) (e : JobFault) → job_of bs ≡ Err e → unchecked_model bs ≡ Err (of_job e)
+unfolding unchecked_model
 no_job bs e a = then_not of_job (job_of bs) _ e a
 
-pub no_scene : (bs : List ℕ) (j : JobNumbers) (e : SceneFault) → job_of bs ≡ Ok j → scene_of (bytes_from 20 bs) ≡ Err e → parts_of bs ≡ Err (of_scene e)
-unfolding parts_of
-no_scene bs j e a b = then_is of_job (job_of bs) _ j a ∙ then_not of_scene (scene_of (bytes_from 20 bs)) _ e b
+pub no_scene : (bs : List ℕ) (j : JobNumbers) (e : SceneFault) → job_of bs ≡ Ok j → scene_of (after_job bs) ≡ Err e → unchecked_model bs ≡ Err (of_scene e)
+unfolding unchecked_model
+no_scene bs j e a b = then_is of_job (job_of bs) _ j a ∙ then_not of_scene (scene_of (after_job bs)) _ e b
 
-pub no_sheet : (bs : List ℕ) (j : JobNumbers) (n : ℕ) (b : Body) (e : SurfaceReadFault) → job_of bs ≡ Ok j → scene_of (bytes_from 20 bs) ≡ Ok (n, b) → surface_of (bytes_from (1 + n) (bytes_from 20 bs)) 4096 ≡ Err e → parts_of bs ≡ Err (of_surface e)
-unfolding parts_of
-no_sheet bs j n b e a c d = then_is of_job (job_of bs) _ j a ∙ then_is of_scene (scene_of (bytes_from 20 bs)) _ (n, b) c ∙ then_not of_surface (surface_of (bytes_from (1 + n) (bytes_from 20 bs)) 4096) _ e d
+pub no_sheet : (bs : List ℕ) (j : JobNumbers) (n : ℕ) (b : Body) (e : SurfaceReadFault) → job_of bs ≡ Ok j → scene_of (after_job bs) ≡ Ok (n, b) → surface_of (after_scene n bs) 4096 ≡ Err e → unchecked_model bs ≡ Err (of_surface e)
+unfolding unchecked_model
+no_sheet bs j n b e a c d = then_is of_job (job_of bs) _ j a ∙ then_is of_scene (scene_of (after_job bs)) _ (n, b) c ∙ then_not of_surface (surface_of (after_scene n bs) 4096) _ e d
 
 -- the parts of an input that was read
-pub in_three : (bs : List ℕ) (m : Model) → parts_of bs ≡ Ok m → (t : Three bs m) × (length (tail bs m t) ≡ 0)
-unfolding parts_of
+pub in_three : (bs : List ℕ) (m : Model) → unchecked_model bs ≡ Ok m → (t : Three bs m) × (length (tail bs m t) ≡ 0)
+unfolding unchecked_model
 in_three bs m e =
     let j = first_ok (result_map_both (λ x. x) of_job (job_of bs)) _ m e in
-    let s = first_ok (result_map_both (λ x. x) of_scene (scene_of (bytes_from 20 bs))) _ m j.1.1 in
-    let h = first_ok (result_map_both (λ x. x) of_surface (surface_of (bytes_from (1 + s.0.0) (bytes_from 20 bs)) 4096)) _ m s.1.1 in
-    let u = test_held (eqb (length (bytes_from (1 + h.0.0.width * h.0.0.depth) (bytes_from (1 + s.0.0) (bytes_from 20 bs)))) 0) left _ m h.1.1 in
+    let s = first_ok (result_map_both (λ x. x) of_scene (scene_of (after_job bs))) _ m j.1.1 in
+    let h = first_ok (result_map_both (λ x. x) of_surface (surface_of (after_scene s.0.0 bs) 4096)) _ m s.1.1 in
+    let u = test_held (eqb (length (after_surface (h.0.0.width * h.0.0.depth) s.0.0 bs)) 0) left _ m h.1.1 in
     let model : Model = record { job = j.0; scene = s.0.1; width = h.0.0.width; depth = h.0.0.depth; heights = h.0.1 } in
-    let three : Three bs model = record { count = s.0.0; job = mapped_ok of_job (job_of bs) j.0 j.1.0; scene = mapped_ok of_scene (scene_of (bytes_from 20 bs)) s.0 s.1.0; sheet = mapped_ok of_surface (surface_of (bytes_from (1 + s.0.0) (bytes_from 20 bs)) 4096) h.0 h.1.0 } in
+    let three : Three bs model = record { count = s.0.0; job = mapped_ok of_job (job_of bs) j.0 j.1.0; scene = mapped_ok of_scene (scene_of (after_job bs)) s.0 s.1.0; sheet = mapped_ok of_surface (surface_of (after_scene s.0.0 bs) 4096) h.0 h.1.0 } in
     let none : length (tail bs model three) ≡ 0 = eqb-true (length (tail bs model three)) 0 u.0 in
     subst (λ (m : Model). (t : Three bs m) × (length (tail bs m t) ≡ 0)) (same_ok model m u.1) (three, none)
 
 -- The readers, one after another: each begins where the one before it stopped.
-module _ (bs : List ℕ) (r0 r1 : Reader) (here : bytes_left r0 ≡ bs) (job : Job) (told : Ok (job_numbers job) ≡ job_of (bytes_left r0)) (begun : Begun 20 r0 r1) where
+module _ (bs : List ℕ) (r0 r1 : Reader) (here : bytes_left r0 ≡ bs) (job : Job) (answer : Ok (job_numbers job) ≡ job_of (bytes_left r0)) (begun : Begun 20 r0 r1) where
   job_is : job_of bs ≡ Ok (job_numbers job)
-  job_is = ap job_of (sym here) ∙ sym told
+  job_is = ap job_of (sym here) ∙ sym answer
 
-  at_scene : bytes_left r1 ≡ bytes_from 20 bs
+  at_scene : bytes_left r1 ≡ after_job bs
   at_scene = after 20 r0 r1 begun ∙ ap (bytes_from 20) here
 
-  pub scene_fails : (old body : Body) (e : SceneFault) → ◌≡◌ {A = SceneRead} (Err e, body) (put_scene old (scene_of (bytes_left r1))) → parts_of bs ≡ Err (of_scene e)
+  pub scene_fails : (old body : Body) (e : SceneFault) → ◌≡◌ {A = SceneRead} (Err e, body) (put_scene old (scene_of (bytes_left r1))) → unchecked_model bs ≡ Err (of_scene e)
   scene_fails old body e v = no_scene bs (job_numbers job) e job_is (ap scene_of (sym at_scene) ∙ scene_refused (scene_of (bytes_left r1)) old body e v)
 
   module _ (r2 : Reader) (old body : Body) (u : Unit {0}) (v : ◌≡◌ {A = SceneRead} (Ok u, body) (put_scene old (scene_of (bytes_left r1))))
@@ -173,19 +176,19 @@ module _ (bs : List ℕ) (r0 r1 : Reader) (here : bytes_left r0 ≡ bs) (job : J
     answered : scene_of (bytes_left r1) ≡ Ok (n, body)
     answered = (scene_read (scene_of (bytes_left r1)) old body u v).1
 
-    scene_is : scene_of (bytes_from 20 bs) ≡ Ok (n, body)
+    scene_is : scene_of (after_job bs) ≡ Ok (n, body)
     scene_is = ap scene_of (sym at_scene) ∙ answered
 
-    at_sheet : bytes_left r2 ≡ bytes_from (1 + n) (bytes_from 20 bs)
+    at_sheet : bytes_left r2 ≡ after_scene n bs
     at_sheet =
         after (1 + n) r1 r2 (subst (λ (x : Result (ℕ × Body) SceneFault). MatchResult x (λ x. Begun (1 + x.0) r1 r2) (λ _. r2 ≡ r1)) answered moved)
         ∙ ap (bytes_from (1 + n)) at_scene
 
     module _ (buffer : List ℤ) (long : length buffer ≡ 4096) where
-      sheet_there : surface_of (bytes_left r2) (length buffer) ≡ surface_of (bytes_from (1 + n) (bytes_from 20 bs)) 4096
-      sheet_there = ap (λ (x : List ℕ). surface_of x (length buffer)) at_sheet ∙ ap (surface_of (bytes_from (1 + n) (bytes_from 20 bs))) long
+      sheet_there : surface_of (bytes_left r2) (length buffer) ≡ surface_of (after_scene n bs) 4096
+      sheet_there = ap (λ (x : List ℕ). surface_of x (length buffer)) at_sheet ∙ ap (surface_of (after_scene n bs)) long
 
-      pub sheet_fails : (new : List ℤ) (e : SurfaceReadFault) → ◌≡◌ {A = SheetRead} (Err e, new) (put_into buffer (surface_of (bytes_left r2) (length buffer))) → parts_of bs ≡ Err (of_surface e)
+      pub sheet_fails : (new : List ℤ) (e : SurfaceReadFault) → ◌≡◌ {A = SheetRead} (Err e, new) (put_into buffer (surface_of (bytes_left r2) (length buffer))) → unchecked_model bs ≡ Err (of_surface e)
       sheet_fails new e v = no_sheet bs (job_numbers job) n body e job_is scene_is (sym sheet_there ∙ sheet_refused (surface_of (bytes_left r2) (length buffer)) buffer new e v)
 
       module _ (r3 : Reader) (size : SurfaceSize) (new : List ℤ) (w : ◌≡◌ {A = SheetRead} (Ok size, new) (put_into buffer (surface_of (bytes_left r2) (length buffer))))
@@ -193,10 +196,10 @@ module _ (bs : List ℕ) (r0 r1 : Reader) (here : bytes_left r0 ≡ bs) (job : J
         abbrev m : Model
         m = model_of (job_numbers job) body size new
 
-        sheet_is : surface_of (bytes_from (1 + n) (bytes_from 20 bs)) 4096 ≡ Ok (size, m.heights)
+        sheet_is : surface_of (after_scene n bs) 4096 ≡ Ok (size, m.heights)
         sheet_is =
             let x = sheet_read (surface_of (bytes_left r2) (length buffer)) buffer new size w in
-            let is : surface_of (bytes_from (1 + n) (bytes_from 20 bs)) 4096 ≡ Ok (size, x.0) = sym sheet_there ∙ x.1 in
+            let is : surface_of (after_scene n bs) 4096 ≡ Ok (size, x.0) = sym sheet_there ∙ x.1 in
             let columns = size.width * size.depth in
             let front : take columns new ≡ x.0 = ap (take columns) x.2 ∙ take_at x.0 (drop columns buffer) columns (surface_sound _ size x.0 is).long in
             is ∙ ap (λ (hs : List ℤ). Ok (size, hs)) (sym front)
@@ -207,23 +210,23 @@ module _ (bs : List ℕ) (r0 r1 : Reader) (here : bytes_left r0 ≡ bs) (job : J
         at_tail : bytes_left r3 ≡ tail bs m three
         at_tail = after (1 + size.width * size.depth) r2 r3 ended ∙ ap (bytes_from (1 + size.width * size.depth)) at_sheet
 
-        pub some_left : eqb (length (bytes_left r3)) 0 ≡ false → parts_of bs ≡ Err left
+        pub some_left : eqb (length (bytes_left r3)) 0 ≡ false → unchecked_model bs ≡ Err left
         some_left e = from_three bs m three ∙ cond-false (eqb (length (tail bs m three)) 0) _ _ (ap (λ (x : List ℕ). eqb (length x) 0) (sym at_tail) ∙ e)
 
-        pub none_left : eqb (length (bytes_left r3)) 0 ≡ true → parts_of bs ≡ Ok m
+        pub none_left : eqb (length (bytes_left r3)) 0 ≡ true → unchecked_model bs ≡ Ok m
         none_left e = from_three bs m three ∙ cond-true (eqb (length (tail bs m three)) 0) _ _ (ap (λ (x : List ℕ). eqb (length x) 0) (sym at_tail) ∙ e)
 
 -- the sides of a surface that was read
-pub model_sound : (bs : List ℕ) (m : Model) → parts_of bs ≡ Ok m → Sound (record { width = m.width; depth = m.depth }) m.heights
-model_sound bs m e = let t = in_three bs m e in surface_sound (bytes_from (1 + t.0.count) (bytes_from 20 bs)) (record { width = m.width; depth = m.depth }) m.heights t.0.sheet
+pub model_sound : (bs : List ℕ) (m : Model) → unchecked_model bs ≡ Ok m → Sound (record { width = m.width; depth = m.depth }) m.heights
+model_sound bs m e = let t = in_three bs m e in surface_sound (bytes_from (1 + t.0.count) (after_job bs)) (record { width = m.width; depth = m.depth }) m.heights t.0.sheet
 
 bytes_in_all : (l n k a b c : ℕ) → a ≡ l - 80 → b ≡ a - 4 * (1 + n) → c ≡ b - 4 * (1 + k) → c ≡ 0 → n ≤ 1792 → k ≤ 4096 → l ≤ 23640
 bytes_in_all l n k a b c e f g h i j = omega arith
 
-pub short_input : (bs : List ℕ) (m : Model) → parts_of bs ≡ Ok m → length bs ≤ 23640
+pub short_input : (bs : List ℕ) (m : Model) → unchecked_model bs ≡ Ok m → length bs ≤ 23640
 short_input bs m e =
     let t = in_three bs m e in
-    let first = bytes_from 20 bs in
+    let first = after_job bs in
     let second = bytes_from (1 + t.0.count) first in
     bytes_in_all (length bs) t.0.count (m.width * m.depth) (length first) (length second) (length (bytes_from (1 + m.width * m.depth) second))
     (length-drop 80 bs) (length-drop (4 * (1 + t.0.count)) first) (length-drop (4 * (1 + m.width * m.depth)) second) t.1

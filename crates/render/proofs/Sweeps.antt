@@ -10,7 +10,7 @@ use Rattle.plate_log.specs.Sweep.{sweep}
 use Rattle.plate_log.specs.Log.{clear_on_ray}
 use Rattle.plate_log.proofs.Sanity.{new_sane}
 use Rattle.plate_log.proofs.Sums.{settled_sum}
-use Rattle.render.specs.Render.{settled_from}
+use Rattle.render.specs.Render.{settled_pixels}
 
 module _ (c : ℕ → ℕ) (far b : ℕ) (enough : far + 1 ≤ b) where
   -- a new ray that is given more steps than it can take ends as it does with far + 1
@@ -26,8 +26,8 @@ module _ (c : ℕ → ℕ) (far b : ℕ) (enough : far + 1 ≤ b) where
 more : (n far b l : ℕ) → suc n * (far + 1) ≤ b → b - (far + 1) ≤ l → (far + 1 ≤ b) × (n * (far + 1) ≤ l)
 more n far b l h k = let e = suc-mul n (far + 1) in (omega arith, omega arith)
 
-pub swept_picture : (v : View) (b : Body) (n k budget : ℕ) → n * (v.far + 1) ≤ budget → (sweep (clear_on_ray v b) v.far budget k (replicate n new_pixel)).0 ≡ settled_from b (plain_view v) k n
-unfolding settled_from
+pub swept_picture : (v : View) (b : Body) (n k budget : ℕ) → n * (v.far + 1) ≤ budget → (sweep (clear_on_ray v b) v.far budget k (replicate n new_pixel)).0 ≡ settled_pixels b (plain_view v) k n
+unfolding settled_pixels
 swept_picture v b zero k budget h = refl
 swept_picture v b (suc n) k budget h =
     let far = v.far in

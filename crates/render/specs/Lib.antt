@@ -3,4 +3,4 @@ pub mod Models
 pub mod Render
 pub mod Laws
 pub mod Steps
-pub mod Loans
+pub mod Buffers

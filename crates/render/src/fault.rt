@@ -2,7 +2,7 @@
 ghost use Rattle.std.specs.Prelude.{◌≡◌, ℕ, Some};
 ghost use Rattle.refusal.specs.Texts.{refusal_text};
 ghost use Rattle.render.specs.Render.{refusal_of};
-ghost use Rattle.render.specs.Codes.{input_code, refusal_code, render_code};
+ghost use Rattle.render.specs.Codes.{input_code, input_refusal, render_code};
 ghost use Rattle.render.specs.declared.fault.InputFault.TheVariants.{Job, Scene, Surface, Shallow};
 
 use march::StepFault;
@@ -11,8 +11,7 @@ use refusal::{Refusal, RefusalCode, Rule};
 use std::fmt;
 use words::Kind;
 
-/// Why an input is refused. It has four parts, by their numbers: 1 job, 2 scene, 3 surface, 4
-/// the whole.
+/// Why an input is refused: in one of its parts, or as a whole.
 #[derive(Clone, Copy, PartialEq, Eq, Debug)]
 pub enum InputFault {
     Job(JobFault),
@@ -26,38 +25,37 @@ pub enum InputFault {
     Shallow,
 }
 
-/// The parts of an input.
-#[derive(Clone, Copy)]
-enum Part {
-    Job = 1,
-    Scene = 2,
-    Surface = 3,
-    Whole = 4,
-}
+/// The parts of an input, by their numbers.
+const JOB_PART: u32 = 1;
+
+const SCENE_PART: u32 = 2;
+
+const SURFACE_PART: u32 = 3;
+
+const WHOLE_PART: u32 = 4;
 
 /// Bits 27..24 of a refusal are the part, 23..16 the number, 15..0 the place.
 const PARTS: u32 = 0x100_0000;
 
 const NUMBERS: u32 = 0x1_0000;
 
+/// A place past this is written as this.
 const MOST_PLACE: u32 = 0xffff;
 
 impl InputFault {
-    /// The part that is refused, by its number: like the number and the place it is written into a
-    /// word and told as it is.
+    /// The part that is refused, by its number.
     pub fn part(&self) -> u32
         ensures { result ≡ (input_code self.now).0 }
     {
-        let part = match self {
-            InputFault::Job(_) => Part::Job,
-            InputFault::Scene(_) => Part::Scene,
-            InputFault::Surface(_) => Part::Surface,
-            InputFault::Left | InputFault::Inexact | InputFault::Shallow => Part::Whole,
-        };
-        part as u32
+        match self {
+            InputFault::Job(_) => JOB_PART,
+            InputFault::Scene(_) => SCENE_PART,
+            InputFault::Surface(_) => SURFACE_PART,
+            InputFault::Left | InputFault::Inexact | InputFault::Shallow => WHOLE_PART,
+        }
     }
 
-    /// The word that tells it.
+    /// The word of the refusal: its part, its number and its place.
     pub(crate) fn word(&self) -> u32
         ensures { result ≡ refusal_of self.now }
     {
@@ -67,7 +65,7 @@ impl InputFault {
 }
 
 impl Refusal for InputFault {
-    ghost code = { refusal_code };
+    ghost code = { input_refusal };
 
     fn number(&self) -> u32 {
         match self {
@@ -91,7 +89,7 @@ impl Refusal for InputFault {
 }
 
 impl fmt::Display for InputFault {
-    ghost output = { λ fault. Some (refusal_text (refusal_code fault)) };
+    ghost output = { λ fault. Some (refusal_text (input_refusal fault)) };
 
     fn fmt<W: fmt::Write>(&self, f: &mut fmt::Formatter<W>) -> fmt::Result {
         RefusalCode::of(self).fmt(f)

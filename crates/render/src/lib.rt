@@ -1,30 +1,39 @@
 //! One call from the bytes of a model to the bytes of its depth image.
 #![tactic(auto)]
 
-ghost use Rattle.std.specs.Prelude.{◌≡◌, ℕ, ◌≤◌, length, IfOk, Ok, OnOk};
+ghost use Rattle.std.specs.Prelude.{◌≡◌, ◌≤◌, length, IfOk, OnOk};
+ghost use Rattle.leaves.specs.declared.surface.TheConstants.{MOST_COLUMNS};
 ghost use Rattle.scene.specs.Scenes.{scene_body};
-ghost use Rattle.render.specs.Models.{Model, parts_of, parse};
+ghost use Rattle.render.specs.declared.TheConstants.{MOST_BYTES};
+ghost use Rattle.render.specs.Models.{unchecked_model};
 ghost use Rattle.render.specs.Render.{rendering};
-ghost use Rattle.render.specs.Laws.{ShowsModel, Files};
+ghost use Rattle.render.specs.Laws.{ShowsInput, Files};
 ghost use Rattle.render.specs.Steps.{model_in};
 
 use buffers::Buffers;
-use fault::{InputFault, RenderFault};
 use leaves::SurfaceSize;
 use march::Pixel;
+use plate_log::HEAD;
 use readers::{Job, read_job, read_scene, read_surface};
 use scene::Scene;
 use words::{Reader, WORD};
 
 mod buffers;
-pub mod fault;
+mod fault;
+mod guard;
 
+pub use fault::{InputFault, RenderFault};
 /// The most pixels that a view has, and so the records that the call wants.
-pub const MOST_PIXELS: usize = 4096;
+pub use march::MOST_PIXELS;
+pub use readers::JOB_WORDS;
 
 /// The bytes of an image of so many pixels, and so those that the call wants: two words in front,
 /// then one a pixel, each of four bytes.
-pub const MOST_BYTES: usize = WORD * (2 + MOST_PIXELS);
+pub const MOST_BYTES: usize = WORD * (HEAD + MOST_PIXELS);
+
+/// No lawful input has more bytes: a job, a scene of 1,792 words after its first, and a surface of
+/// 4,096 heights after its own.
+pub const MOST_INPUT: usize = 23_640;
 
 /// Reads job, scene and surface, joined, after which no byte is left.
 fn read_parts(
@@ -32,8 +41,8 @@ fn read_parts(
     scene: &mut Scene,
     heights: &mut [i16],
 ) -> Result<(Job, SurfaceSize), InputFault>
-    requires { length heights.old ≡ 4096 }
-    ensures { model_in result (scene_body scene.new) heights.new ≡ parts_of input.now }
+    requires { length heights.old ≡ MOST_COLUMNS }
+    ensures { model_in result (scene_body scene.new) heights.new ≡ unchecked_model input.now }
 {
     let mut from = Reader::new(input);
     let job = read_job(&mut from)?;
@@ -46,11 +55,13 @@ fn read_parts(
 }
 
 /// Reads a model and writes its depth image, or the one word that says why the input is refused,
-/// and answers how many bytes it wrote. It wants 4,096 records and 16,392 bytes, whatever the input.
+/// and answers how many bytes it wrote. Whatever the input, it wants 4,096 records, else it is
+/// refused with 18, and then 16,392 bytes, else with 21; refused, it leaves records and bytes as
+/// they were.
 pub fn render(input: &[u8], records: &mut [Pixel], out: &mut [u8]) -> Result<usize, RenderFault>
     ensures value { (result, records.new, out.new) ≡ rendering input.now records.old out.old }
-    ensures contact { OnOk result ((m : Model) → parse input.now ≡ Ok m → ShowsModel m out.new) }
-    ensures most { IfOk result (λ n. n ≤ 16392) }
+    ensures contact { OnOk result (ShowsInput input.now out.new) }
+    ensures most { IfOk result (λ n. n ≤ MOST_BYTES) }
     ensures files { OnOk result Files }
 {
     if records.len() < MOST_PIXELS {

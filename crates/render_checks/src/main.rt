@@ -38,7 +38,7 @@ fn is_untouched(records: &[Pixel]) -> bool {
     records.iter().all(|record| *record == UNTOUCHED)
 }
 
-/// So many records and bytes to lend, and what they hold before a call. The kit uses no heap.
+/// So many records and bytes to lend, and what they hold before a call, which uses no heap itself.
 fn lent(heap: Global, records: usize, bytes: usize) -> Result<(Vec<Pixel>, Vec<u8>), AllocError> {
     let mut lent = Vec::new(heap);
     lent.resize(records, UNTOUCHED)?;

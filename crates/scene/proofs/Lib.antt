@@ -1,5 +1,5 @@
-pub mod Gathers
-pub mod Stacks
+pub mod FirstEntries
+pub mod Takes
 pub mod Starts
 pub mod Searches
 pub mod Asked

@@ -9,12 +9,16 @@ use Rattle.solid.specs.Body.{Body}
 use Rattle.piles.specs.Layers.{unite}
 use Rattle.scene.specs.declared.node.Node.{Node}
 use Rattle.scene.specs.declared.parts.Part.{Part}
-use Rattle.scene.specs.Standing.{standing, has_one, top}
-use Rattle.scene.specs.Parts.{last_body, IsPart, AreParts, Unites, IsSearch}
-use Rattle.scene.proofs.Stacks.{some_laid, two_some, two_top}
+use Rattle.scene.specs.declared.table.TheConstants.{MOST_NODES}
+use Rattle.scene.specs.declared.search.TheConstants.{MOST_ENDS}
+use Rattle.scene.specs.Standing.{bodies_after, has_one, last_standing, last_body}
+use Rattle.scene.specs.Parts.{IsPart, AreParts, Unites}
+use Rattle.scene.specs.Searches.{IsSearch}
+use Rattle.scene.proofs.Takes.{some_laid, one_of_two, last_standing-with_joined}
 
 pub by_same : (a b : ℕ) (P : Type 0) → (a ≡ b → P) → (a ≢ b → P) → P
-by_same a b P same apart = ⊎_elim (λ l. apart (omega arith)) (λ l. ⊎_elim (λ m. apart (omega arith)) (λ m. same (omega arith)) (cases_lt b a)) (cases_lt a b)
+by_same a b P same apart =
+    ⊎_elim (λ l. apart (omega arith)) (λ l. ⊎_elim (λ m. apart (omega arith)) (λ m. same (omega arith)) (cases_lt b a)) (cases_lt a b)
 
 -- a row of marks of which one more is set: that one is, those that were still are, and no others
 pub marked : (xs : List Bool) (i : ℕ) → i < length xs → get_or (set xs i true) i false ≡ true
@@ -26,8 +30,10 @@ marked_still xs i e h =
     (λ q. ⊎_elim (λ l. ap (λ k. get_or (set xs i true) k false) q ∙ marked xs i (omega arith)) (λ l. absurd (false≢true (sym (get_or_past xs e false l) ∙ h))) (cases_lt e (length xs)))
     (λ q. get_or-set_other xs i e true false q ∙ h)
 
-pub marked_before : (xs : List Bool) (i e : ℕ) → get_or (set xs i true) e false ≡ true → (e ≡ i) ⊎ (get_or xs e false ≡ true)
-marked_before xs i e h = by_same e i ((e ≡ i) ⊎ (get_or xs e false ≡ true)) (λ q. inl q) (λ q. inr (sym (get_or-set_other xs i e true false q) ∙ h))
+pub marked_before : (xs : List Bool) (i e : ℕ) → get_or (set xs i true) e false ≡ true
+    → (e ≡ i) ⊎ (get_or xs e false ≡ true)
+marked_before xs i e h =
+    by_same e i ((e ≡ i) ⊎ (get_or xs e false ≡ true)) (λ q. inl q) (λ q. inr (sym (get_or-set_other xs i e true false q) ∙ h))
 
 unmarked : (k e : ℕ) → get_or (replicate k false) e false ≡ false
 unmarked zero e = refl
@@ -35,27 +41,31 @@ unmarked (suc k) zero = refl
 unmarked (suc k) (suc e) = unmarked k e
 
 module _ (ns : List Node) (n : ℕ) where
-  pub whole_is_part : has_one (standing ns n) ≡ true → IsPart ns n n
+  pub whole_is_part : has_one (bodies_after ns n) ≡ true → IsPart ns n n
   whole_is_part h = record { laid = omega arith; stands = h; reaches = omega arith; no_nearer = λ p. omega arith }
 
   -- a search begins at the whole
-  pub search_begun : (row : List Part) → n ≤ 256 → has_one (standing ns n) ≡ true → IsSearch ns n (set (replicate 257 false) n true) row 0 n
+  pub search_begun : (row : List Part) → n ≤ MOST_NODES → has_one (bodies_after ns n) ≡ true
+      → IsSearch ns n (set (replicate MOST_ENDS false) n true) row 0 n
   search_begun row l h = record {
     room = omega arith;
-    opened = λ e le o. elim (marked_before (replicate 257 false) n e o) [
+    opened = λ e le o. elim (marked_before (replicate MOST_ENDS false) n e o) [
       | inl q ↦ subst⁻¹ (IsPart ns n) q (whole_is_part h)
-      | inr o ↦ absurd (false≢true (sym (unmarked 257 e) ∙ o))
+      | inr o ↦ absurd (false≢true (sym (unmarked MOST_ENDS e) ∙ o))
     ];
     each = λ i d k. absurd (omega arith);
-    all = λ p m found rest. rest n (omega arith) (marked (replicate 257 false) n (omega (arith, length-replicate 257 false)));
+    all =
+        λ p m found rest. rest n (omega arith) (marked (replicate MOST_ENDS false) n (omega (arith, length-replicate MOST_ENDS false)));
   }
 
   -- what a union unites
   module _ (end left : ℕ) (u : Unites ns end left) where
     is : last_body ns end ≡ unite (last_body ns left) (last_body ns (end - 1))
-    is = ap top u.made ∙ two_top unite (standing ns (end - 1)) u.fit ∙ ap (λ b. unite b (last_body ns (end - 1))) (sym (ap top u.beside))
+    is =
+        ap last_standing u.made ∙ last_standing-with_joined unite (bodies_after ns (end - 1)) u.fit ∙ ap (λ b. unite b (last_body ns (end - 1))) (sym (ap last_standing u.beside))
 
-    pub union_clear : (p : Point) → (last_body ns end).clear p ≡ min ((last_body ns left).clear p) ((last_body ns (end - 1)).clear p)
+    pub union_clear : (p : Point)
+        → (last_body ns end).clear p ≡ min ((last_body ns left).clear p) ((last_body ns (end - 1)).clear p)
     union_clear p = ap (λ (b : Body). b.clear p) is
 
     reach : (last_body ns end).reach ≡ min (last_body ns left).reach (last_body ns (end - 1)).reach
@@ -64,7 +74,7 @@ module _ (ns : List Node) (n : ℕ) where
     pub right_is_part : IsPart ns n end → IsPart ns n (end - 1)
     right_is_part t = record {
       laid = omega (arith, t.laid);
-      stands = two_some (standing ns (end - 1)) u.fit;
+      stands = one_of_two (bodies_after ns (end - 1)) u.fit;
       reaches = omega (arith, t.reaches, reach);
       no_nearer = λ p. omega (arith, t.no_nearer p, union_clear p);
     }
@@ -79,7 +89,8 @@ module _ (ns : List Node) (n : ℕ) where
 
   module _ (marks : List Bool) (row : List Part) (k end : ℕ) (s : IsSearch ns n marks row k end) (some_end : 1 ≤ end) where
     -- a union is no part: what it unites is open in its place
-    pub search_union : (left : ℕ) → end ≤ n → n < length marks → get_or marks end false ≡ true → Unites ns end left → IsSearch ns n (set (set marks (end - 1) true) left true) row k (end - 1)
+    pub search_union : (left : ℕ) → end ≤ n → n < length marks → get_or marks end false ≡ true
+        → Unites ns end left → IsSearch ns n (set (set marks (end - 1) true) left true) row k (end - 1)
     search_union left le room_for h u = record {
       room = omega (arith, s.room);
       opened = λ e l o. elim (marked_before first left e o) [
@@ -108,7 +119,8 @@ module _ (ns : List Node) (n : ℕ) where
         right_open = marked_still first left (end - 1) (marked marks (end - 1) (omega arith))
 
     -- what is no union is a part
-    pub search_part : (x : Part) → k < length row → x.end ≡ end → get_or marks end false ≡ true → IsSearch ns n marks (set row k x) (k + 1) (end - 1)
+    pub search_part : (x : Part) → k < length row → x.end ≡ end → get_or marks end false ≡ true
+        → IsSearch ns n marks (set row k x) (k + 1) (end - 1)
     search_part x room_for e h = record {
       room = omega (arith, s.room);
       opened = λ e l. s.opened e (omega arith);
@@ -123,7 +135,8 @@ module _ (ns : List Node) (n : ℕ) where
     }
       where
         last : (i : ℕ) (d : Part) → i ≡ k → (get_or (set row k x) i d).end ≡ end
-        last i d q = ap (λ j. (get_or (set row k x) j d).end) q ∙ ap (λ (y : Part). y.end) (get_or-set_same row k x d room_for) ∙ e
+        last i d q =
+            ap (λ j. (get_or (set row k x) j d).end) q ∙ ap (λ (y : Part). y.end) (get_or-set_same row k x d room_for) ∙ e
 
   -- nothing is open that stands before the first node
   pub search_done : (marks : List Bool) (row : List Part) (k : ℕ) → IsSearch ns n marks row k 0 → AreParts ns n row k

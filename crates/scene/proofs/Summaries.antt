@@ -3,31 +3,36 @@ use Rattle.std.proofs.Common.{◌≡◌, ℕ, zero, suc, ◌+◌, ◌-◌, ◌<�
 use Rattle.std.proofs.lemmas.List.{get_or-take, length-take-le}
 use Rattle.solid.specs.Body.{Body}
 use Rattle.scene.specs.declared.node.Summary.{Summary}
-use Rattle.scene.specs.declared.draft.DraftFault.{DraftFault}
-use Rattle.scene.specs.declared.draft.DraftFault.TheVariants.{TooFew, Unfinished}
-use Rattle.scene.specs.Standing.{gather, summary_of, last_is_exact, no_summary, summaries_of}
-use Rattle.scene.specs.Known.{last_summary, last_two_summaries, only_summary}
-use Rattle.scene.proofs.Gathers.{gathered_last, gathered_push}
+use Rattle.scene.specs.declared.fault.DraftFault.{DraftFault}
+use Rattle.scene.specs.declared.fault.DraftFault.TheVariants.{TooFew, Unfinished}
+use Rattle.scene.specs.Standing.{fold_first, last_is_exact}
+use Rattle.scene.specs.Summaries.{summary_of, no_summary, summaries_of, AreSummaries, last_summary, last_two_summaries, only_summary}
+use Rattle.scene.proofs.FirstEntries.{fold_first-last, fold_first-push}
 
 -- as many bodies stand as there are summaries
-pub height : (s : List Body) (ms : List Summary) (h : ℕ) → map summary_of s ≡ summaries_of ms h → length s ≡ h
-unfolding gather
-height [] ms zero e = refl
-height [] ms (suc h) e = cc
-height (a ∷ s) ms zero e = cc
-height (a ∷ s) ms (suc h) e = ap suc (height s ms h (cc))
+pub body_count : (s : List Body) (ms : List Summary) (h : ℕ) → AreSummaries s ms h → length s ≡ h
+unfolding fold_first
+body_count [] ms zero e = refl
+body_count [] ms (suc h) e = cc
+body_count (a ∷ s) ms zero e = cc
+body_count (a ∷ s) ms (suc h) e = ap suc (body_count s ms h (cc))
 
 -- without the last k
-dropped : (k : ℕ) (s : List Body) (ms : List Summary) (h : ℕ) → map summary_of s ≡ summaries_of ms h → k ≤ h → map summary_of (drop k s) ≡ summaries_of ms (h - k)
-unfolding gather
-dropped zero s ms h e l = let z : h ≡ h - 0 = omega arith in e ∙ ap (summaries_of ms) z
-dropped (suc k) s ms zero e l = absurd (omega arith)
-dropped (suc k) [] ms (suc h) e l = cc
-dropped (suc k) (a ∷ s) ms (suc h) e l = let z : h - k ≡ suc h - suc k = omega arith in dropped k s ms h (cc) (omega arith) ∙ ap (summaries_of ms) z
+summaries_dropped : (k : ℕ) (s : List Body) (ms : List Summary) (h : ℕ) → AreSummaries s ms h → k ≤ h
+    → AreSummaries (drop k s) ms (h - k)
+unfolding fold_first
+summaries_dropped zero s ms h e l = let z : h ≡ h - 0 = omega arith in e ∙ ap (summaries_of ms) z
+summaries_dropped (suc k) s ms zero e l = absurd (omega arith)
+summaries_dropped (suc k) [] ms (suc h) e l = cc
+summaries_dropped (suc k) (a ∷ s) ms (suc h) e l =
+    let z : h - k ≡ suc h - suc k = omega arith in summaries_dropped k s ms h (cc) (omega arith) ∙ ap (summaries_of ms) z
 
 -- a node that takes the last k leaves its own summary above the others
-pub tallied : (s t : List Body) (ms : List Summary) (h k : ℕ) (x : Summary) → map summary_of s ≡ summaries_of ms h → k ≤ h → h - k < length ms → map summary_of t ≡ x ∷ map summary_of (drop k s) → map summary_of t ≡ summaries_of (set ms (h - k) x) (h - k + 1)
-tallied s t ms h k x e l m right = right ∙ ap (λ r. x ∷ r) (dropped k s ms h e l) ∙ sym (gathered_push ◌∷◌ [] no_summary ms (h - k) x m)
+pub summaries_pushed : (s t : List Body) (ms : List Summary) (h k : ℕ) (x : Summary) → AreSummaries s ms h
+    → k ≤ h → h - k < length ms → map summary_of t ≡ x ∷ map summary_of (drop k s)
+    → AreSummaries t (set ms (h - k) x) (h - k + 1)
+summaries_pushed s t ms h k x e l m right =
+    right ∙ ap (λ r. x ∷ r) (summaries_dropped k s ms h e l) ∙ sym (fold_first-push ◌∷◌ [] no_summary ms (h - k) x m)
 
 -- the last one
 first_is : (s : List Body) (x : Summary) (t : List Summary) → map summary_of s ≡ x ∷ t → last_summary s ≡ Ok x
@@ -35,7 +40,8 @@ first_is [] x t e = cc
 first_is (a ∷ s) x t e = let f : summary_of a ≡ x = cc in ap Ok f
 
 -- the last two
-both_are : (s : List Body) (x y : Summary) (t : List Summary) → map summary_of s ≡ y ∷ (x ∷ t) → last_two_summaries s ≡ Ok (x, y)
+both_are : (s : List Body) (x y : Summary) (t : List Summary) → map summary_of s ≡ y ∷ (x ∷ t)
+    → last_two_summaries s ≡ Ok (x, y)
 both_are [] x y t e = cc
 both_are (b ∷ []) x y t e = cc
 both_are (b ∷ (a ∷ s)) x y t e = let f : summary_of b ≡ y = cc in let g : summary_of a ≡ x = cc in λ i. Ok (g i, f i)
@@ -45,9 +51,9 @@ only_is [] x e = cc
 only_is (b ∷ []) x e = let f : summary_of b ≡ x = cc in ap Ok f
 only_is (b ∷ (a ∷ s)) x e = cc
 
-module _ (s : List Body) (ms : List Summary) (h : ℕ) (e : map summary_of s ≡ summaries_of ms h) where
+module _ (s : List Body) (ms : List Summary) (h : ℕ) (e : AreSummaries s ms h) where
   one : 1 ≤ h → map summary_of s ≡ get_or ms (h - 1) no_summary ∷ summaries_of ms (h - 1)
-  one l = e ∙ gathered_last ◌∷◌ [] no_summary ms h l
+  one l = e ∙ fold_first-last ◌∷◌ [] no_summary ms h l
 
   pub last_read : 1 ≤ h → Ok (get_or ms (h - 1) no_summary) ≡ last_summary s
   last_read l = sym (first_is s _ _ (one l))
@@ -55,26 +61,28 @@ module _ (s : List Body) (ms : List Summary) (h : ℕ) (e : map summary_of s ≡
   pub two_read : 2 ≤ h → Ok (get_or ms (h - 2) no_summary, get_or ms (h - 1) no_summary) ≡ last_two_summaries s
   two_read l =
       let z : h - 1 - 1 ≡ h - 2 = omega arith in
-      sym (both_are s _ _ (summaries_of ms (h - 2)) (one (omega arith) ∙ ap (λ r. get_or ms (h - 1) no_summary ∷ r) (gathered_last ◌∷◌ [] no_summary ms (h - 1) (omega arith) ∙ ap (λ k. get_or ms k no_summary ∷ summaries_of ms k) z)))
+      sym (both_are s _ _ (summaries_of ms (h - 2)) (one (omega arith) ∙ ap (λ r. get_or ms (h - 1) no_summary ∷ r) (fold_first-last ◌∷◌ [] no_summary ms (h - 1) (omega arith) ∙ ap (λ k. get_or ms k no_summary ∷ summaries_of ms k) z)))
 
   pub only_read : h ≡ 1 → Ok (get_or ms 0 no_summary) ≡ only_summary s
-  unfolding gather
+  unfolding fold_first
   only_read f = sym (only_is s _ (e ∙ ap (summaries_of ms) f))
 
 -- the same of the slice that shows the summaries, and where it has too few
-module _ (s : List Body) (ms xs : List Summary) (h : ℕ) (e : map summary_of s ≡ summaries_of ms h) (room : h ≤ length ms) (f : xs ≡ take h ms) where
+module _ (s : List Body) (ms xs : List Summary) (h : ℕ) (e : AreSummaries s ms h) (room : h ≤ length ms) (f : xs ≡ take h ms) where
   shown : length xs ≡ h
   shown = ap length f ∙ length-take-le h ms room
 
   at : (k j : ℕ) → k ≡ j → k < h → get_or xs k no_summary ≡ get_or ms j no_summary
-  at k j p l = ap (λ ys. get_or ys k no_summary) f ∙ get_or-take h ms k no_summary l ∙ ap (λ i. get_or ms i no_summary) p
+  at k j p l =
+      ap (λ ys. get_or ys k no_summary) f ∙ get_or-take h ms k no_summary l ∙ ap (λ i. get_or ms i no_summary) p
 
   pub last_shown : 1 ≤ length xs → Ok (get_or xs (length xs - 1) no_summary) ≡ last_summary s
   last_shown l =
       let n = shown in
       ap Ok (at (length xs - 1) (h - 1) (omega arith) (omega arith)) ∙ last_read s ms h e (omega arith)
 
-  pub two_shown : 2 ≤ length xs → Ok (get_or xs (length xs - 2) no_summary, get_or xs (length xs - 1) no_summary) ≡ last_two_summaries s
+  pub two_shown : 2 ≤ length xs
+      → Ok (get_or xs (length xs - 2) no_summary, get_or xs (length xs - 1) no_summary) ≡ last_two_summaries s
   two_shown l =
       let n = shown in
       ap₂ (λ x y. Ok (x, y)) (at (length xs - 2) (h - 2) (omega arith) (omega arith)) (at (length xs - 1) (h - 1) (omega arith) (omega arith)) ∙ two_read s ms h e (omega arith)
@@ -85,7 +93,7 @@ module _ (s : List Body) (ms xs : List Summary) (h : ℕ) (e : map summary_of s 
       ap Ok (at 0 0 refl (omega arith)) ∙ only_read s ms h e (omega arith)
 
   stand : length s ≡ length xs
-  stand = height s ms h e ∙ sym shown
+  stand = body_count s ms h e ∙ sym shown
 
   pub no_last : length xs < 1 → Err TooFew ≡ last_summary s
   no_last l = let n = stand in none s (omega arith)
@@ -111,6 +119,8 @@ module _ (s : List Body) (ms xs : List Summary) (h : ℕ) (e : map summary_of s 
       none (b ∷ (a ∷ t)) c = refl
 
 -- whether the last one is exact
-pub exactness : (s : List Body) (r : Result Summary DraftFault) (b : Bool) (P : Summary → Type 0) → ((x : Summary) → P x → b ≡ x.exact) → r ≡ last_summary s → MatchResult r P (λ _. b ≡ false) → b ≡ last_is_exact s
+pub exactness : (s : List Body) (r : Result Summary DraftFault) (b : Bool) (P : Summary → Type 0)
+    → ((x : Summary) → P x → b ≡ x.exact) → r ≡ last_summary s → MatchResult r P (λ _. b ≡ false)
+    → b ≡ last_is_exact s
 exactness [] r b P f e m = rw e at m
 exactness (a ∷ s) r b P f e m = f (summary_of a) (rw e at m)

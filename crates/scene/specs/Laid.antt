@@ -1,15 +1,17 @@
--- What stands once a node is laid down by its numbers on what stood before, or why it is refused. The last that stands comes first.
-use Rattle.std.specs.Prelude.{ℕ, cond, List, [], ◌∷◌, ℤ, Ok, Err, Result}
+-- What stands once a node is laid down by its numbers on what stood before, or why it is refused. The last that stands
+-- comes first in these lists.
+use Rattle.std.specs.Prelude.{ℕ, if◌then◌else◌, List, [], ◌∷◌, ℤ, Ok, Err, Result}
 use Rattle.std.specs.Result.{result_map_both}
 use Rattle.lattice.specs.declared.Point.{Point}
 use Rattle.solid.specs.Body.{Body}
 use Rattle.piles.specs.Leaves.{ball, block}
 use Rattle.piles.specs.Layers.{shift, thicken}
 use Rattle.leaves.specs.Made.{ball_made, box_made}
-use Rattle.layers.specs.Made.{offset_checked, thicken_number}
-use Rattle.scene.specs.declared.draft.DraftFault.{DraftFault}
-use Rattle.scene.specs.declared.draft.DraftFault.TheVariants.{TooFew, Inexact, Leaf, Layer}
+use Rattle.layers.specs.Checks.{check_offset, thicken_number}
+use Rattle.scene.specs.declared.fault.DraftFault.{DraftFault}
+use Rattle.scene.specs.declared.fault.DraftFault.TheVariants.{TooFew, Inexact, Leaf, Layer}
 
+-- what stands, or the refusal
 abbrev pub LayAnswer : Type 0
 LayAnswer = Result (List Body) DraftFault
 
@@ -29,9 +31,9 @@ two_on f (b ∷ (a ∷ s)) = Ok (f a b ∷ s)
 -- a shift takes the last one, and must not pass its reach
 abbrev pub shift_on : Point → List Body → LayAnswer
 shift_on v [] = Err TooFew
-shift_on v (a ∷ s) = result_map_both (λ _. shift v a ∷ s) Layer (offset_checked a.reach v)
+shift_on v (a ∷ s) = result_map_both (λ _. shift v a ∷ s) Layer (check_offset a.reach v)
 
 -- a thickening takes the last one, which must be exact
 abbrev pub thicken_on : ℤ → List Body → LayAnswer
 thicken_on h [] = Err TooFew
-thicken_on h (a ∷ s) = cond a.exact (result_map_both (λ n. thicken n a ∷ s) Layer (thicken_number h)) (Err Inexact)
+thicken_on h (a ∷ s) = if a.exact then result_map_both (λ n. thicken n a ∷ s) Layer (thicken_number h) else Err Inexact

@@ -12,19 +12,21 @@ use Rattle.scene.specs.declared.node.Join.TheVariants.{Unite, Meet}
 use Rattle.scene.specs.declared.node.Leaf.{Leaf}
 use Rattle.scene.specs.declared.node.Leaf.TheVariants.{Ball, Block}
 use Rattle.scene.specs.declared.node.Node.TheVariants.{Joined, Leaf as leaf, Shift, Thicken}
-use Rattle.scene.specs.Standing.{leaf_body, join_of, on_two, on_one, with_node, gather, standing, origin, top}
+use Rattle.scene.specs.Standing.{leaf_body, join_of, with_joined, with_changed, with_node, fold_first, bodies_after, origin, last_standing}
 use Rattle.std.proofs.Common.{lit≤}
 
 abbrev pub AllLawful : List Body → Type 0
 AllLawful [] = Unit {0}
 AllLawful (a ∷ s) = Lawful a × AllLawful s
 
-two_lawful : (f : Body → Body → Body) → ((a b : Body) → Lawful a → Lawful b → Lawful (f a b)) → (s : List Body) → AllLawful s → AllLawful (on_two f s)
+two_lawful : (f : Body → Body → Body) → ((a b : Body) → Lawful a → Lawful b → Lawful (f a b))
+    → (s : List Body) → AllLawful s → AllLawful (with_joined f s)
 two_lawful f keeps [] l = l
 two_lawful f keeps (b ∷ []) l = l
 two_lawful f keeps (b ∷ (a ∷ s)) l = (keeps a b l.1.0 l.0, l.1.1)
 
-one_lawful : (f : Body → Body) → ((a : Body) → Lawful a → Lawful (f a)) → (s : List Body) → AllLawful s → AllLawful (on_one f s)
+one_lawful : (f : Body → Body) → ((a : Body) → Lawful a → Lawful (f a))
+    → (s : List Body) → AllLawful s → AllLawful (with_changed f s)
 one_lawful f keeps [] l = l
 one_lawful f keeps (a ∷ s) l = (keeps a l.0, l.1)
 
@@ -33,8 +35,9 @@ joined_lawful Unite a b k l = unite_lawful a b k l
 joined_lawful Meet a b k l = meet_lawful a b k l
 
 leaf_lawful : (l : Leaf) → Lawful (leaf_body l)
-leaf_lawful (Ball b) = ball_lawful b.centre b.radius (placement_in b.centre b.is_placement)
-leaf_lawful (Block b) = block_lawful b.lo b.hi (placement_in b.lo b.lo_is_placement) (placement_in b.hi b.hi_is_placement) b.upright
+leaf_lawful (Ball b) = ball_lawful b.centre b.radius (placement_in b.centre b.centre_is_placement)
+leaf_lawful (Block b) =
+    block_lawful b.lo b.hi (placement_in b.lo b.lo_is_placement) (placement_in b.hi b.hi_is_placement) b.in_order
 
 step_lawful : (n : Node) (s : List Body) → AllLawful s → AllLawful (with_node n s)
 step_lawful (Joined j) s l = two_lawful (join_of j) (joined_lawful j) s l
@@ -42,11 +45,11 @@ step_lawful (leaf b) s l = (leaf_lawful b, l)
 step_lawful (Shift v) s l = one_lawful (shift v) (shift_lawful v) s l
 step_lawful (Thicken h) s l = one_lawful (thicken h) (thicken_lawful h) s l
 
-pub standing_lawful : (ns : List Node) (n : ℕ) → AllLawful (standing ns n)
-unfolding gather
-standing_lawful ns zero = tt
-standing_lawful ns (suc n) = step_lawful (slice_index_or ns n (Joined Unite)) (standing ns n) (standing_lawful ns n)
+pub all_lawful : (ns : List Node) (n : ℕ) → AllLawful (bodies_after ns n)
+unfolding fold_first
+all_lawful ns zero = tt
+all_lawful ns (suc n) = step_lawful (slice_index_or ns n (Joined Unite)) (bodies_after ns n) (all_lawful ns n)
 
-pub top_lawful : (s : List Body) → AllLawful s → Lawful (top s)
-top_lawful [] l = ball_lawful origin 0 (lit≤ tt, lit≤ tt, lit≤ tt)
-top_lawful (a ∷ s) l = l.0
+pub last_lawful : (s : List Body) → AllLawful s → Lawful (last_standing s)
+last_lawful [] l = ball_lawful origin 0 (lit≤ tt, lit≤ tt, lit≤ tt)
+last_lawful (a ∷ s) l = l.0

@@ -1,11 +1,12 @@
 pub mod Standing
 pub mod Laws
-pub mod DraftCodes
+pub mod Codes
 pub mod Laid
-pub mod Known
+pub mod Summaries
+pub mod Tables
 pub mod States
 pub mod Scenes
-pub mod ExactCodes
 pub mod Exacts
 pub mod Bounds
 pub mod Parts
+pub mod Searches

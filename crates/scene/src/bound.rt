@@ -103,9 +103,9 @@ impl Bound {
         p.off_block(self.lo, self.hi)
     }
 
-    /// Where its middle lies, as one number: bounds that lie near one another mostly have places near
-    /// one another. What is about everything comes last.
-    pub(crate) fn place(&self) -> u32 {
+    /// The number of the cell in which its middle lies. Cells that lie near one another mostly have
+    /// numbers near one another. What is about everything comes last.
+    pub(crate) fn cell_number(&self) -> u32 {
         let (lo, hi) = (self.lo.at, self.hi.at);
         if lo.x == -FARTHEST {
             return u32::MAX;
@@ -140,15 +140,15 @@ impl Bound {
 }
 
 /// Leaves lie within this, in size.
-const LEAVES: i32 = 32_768;
+const FARTHEST_LEAF: i32 = 32_768;
 
 /// So long is the side of a cell; 1,024 of them reach across all leaves.
-const CELL: u32 = 64;
+const CELL_SIDE: u32 = 64;
 
 /// The cell, on one axis, in which the middle of two coordinates lies.
 fn cell(lo: i32, hi: i32) -> u32 {
-    let middle = (lo.wrapping_add(hi) / 2).clamp(-LEAVES, LEAVES - 1);
-    middle.abs_diff(-LEAVES) / CELL
+    let middle = (lo.wrapping_add(hi) / 2).clamp(-FARTHEST_LEAF, FARTHEST_LEAF - 1);
+    middle.abs_diff(-FARTHEST_LEAF) / CELL_SIDE
 }
 
 /// The ten lowest bits of a number, each three places above the last.

@@ -1,47 +1,68 @@
 //! A scene that is exact, so that it can be thickened.
-ghost use Rattle.std.specs.Prelude.{◌≡◌, true, Some};
-ghost use Rattle.refusal.specs.Texts.{refusal_text};
-ghost use Rattle.scene.specs.Standing.{standing, top};
-ghost use Rattle.scene.specs.ExactCodes.{exact_code};
+ghost use Rattle.std.specs.Prelude.{◌≡◌, IsTrue, OnErr};
+ghost use Rattle.piles.specs.Leaves.{ball};
+ghost use Rattle.scene.specs.Standing.{origin};
+ghost use Rattle.scene.specs.Scenes.{scene_body, scene_lawful};
 
-use super::Scene;
-use refusal::{Refusal, RefusalCode, Rule};
-use std::fmt;
-
-pub mod filling;
+use crate::fault::ExactFault;
+use crate::scene::Scene;
+use lattice::Point;
+use solid::{Exact, QuestionFault, Solid};
 
 /// A scene of which every node is exact.
 #[derive(Clone, Copy)]
 pub struct ExactScene {
     scene: Scene,
-    ghost marked: { (top (standing scene.table.nodes.items scene.table.nodes.height)).exact ≡ true },
+    ghost is_exact: { IsTrue (scene_body scene).exact },
 }
 
-/// Why an exact scene is not filled.
-#[derive(Clone, Copy, PartialEq, Eq, Debug)]
-pub enum ExactFault {
-    /// 15: the scene that was to be thickened is not exact.
-    Inexact,
-}
+impl ExactScene {
+    ghost use Rattle.scene.specs.Exacts.{exact_scene_body, exact_fill_outcome};
 
-impl Refusal for ExactFault {
-    ghost code = { exact_code };
-
-    fn number(&self) -> u32 {
-        match self {
-            ExactFault::Inexact => Rule::Guard.number(),
+    /// The point at the origin, a ball of radius 0.
+    pub fn new() -> ExactScene
+        ensures { exact_scene_body result ≡ ball origin 0 }
+    {
+        ExactScene {
+            scene: Scene::new(),
         }
     }
 
-    fn place(&self) -> u32 {
-        0
+    /// Becomes that scene where it is exact. Another is refused with 15, and this one stays what it
+    /// was.
+    pub fn fill(&mut self, scene: &Scene) -> Result<(), ExactFault>
+        ensures value { (result, exact_scene_body self.new) ≡
+            exact_fill_outcome (scene_body scene.now) (exact_scene_body self.old) }
+        ensures same { OnErr result (self.new ≡ self.old) }
+    {
+        if !scene.is_exact() {
+            return Err(ExactFault::Inexact);
+        }
+        *self = ExactScene { scene: *scene };
+        Ok(())
     }
 }
 
-impl fmt::Display for ExactFault {
-    ghost output = { λ fault. Some (refusal_text (exact_code fault)) };
+impl Solid for ExactScene {
+    ghost use Rattle.scene.specs.Exacts.{exact_scene_body};
 
-    fn fmt<W: fmt::Write>(&self, f: &mut fmt::Formatter<W>) -> fmt::Result {
-        RefusalCode::of(self).fmt(f)
+    ghost body = { exact_scene_body };
+
+    ghost lawful = { λ e. scene_lawful e.scene };
+
+    fn reach(&self) -> u32 {
+        self.scene.reach()
     }
+
+    fn clearance(&self, p: Point) -> Result<u32, QuestionFault> {
+        self.scene.clearance(p)
+    }
+
+    fn clearance_up_to(&self, p: Point, most: u32) -> Result<u32, QuestionFault> {
+        self.scene.clearance_up_to(p, most)
+    }
+}
+
+impl Exact for ExactScene {
+    fn exactly(&self) {}
 }

@@ -1,8 +1,8 @@
 //! The nodes of a scene.
 ghost use Rattle.std.specs.Prelude.{◌≡◌, min};
-ghost use Rattle.scene.specs.Standing.{summary_of, joined_summary};
+ghost use Rattle.scene.specs.Summaries.{summary_of, joined_summary};
 
-use super::bound::Bound;
+use crate::bound::Bound;
 use lattice::Point;
 use leaves::{AxisBox, Ball, LeafPoint};
 use solid::Exact;

@@ -1,8 +1,8 @@
 //! A stack in a room of fixed size.
 ghost use Rattle.std.specs.Prelude.{◌≡◌, ◌+◌, ◌<◌, ◌≤◌, length, take, slice_set};
 
-/// Items one on another, the last on top: the first `height` of a row of `N`, on no heap. It is copied
-/// as a scene is. That the height is in the row is said where a stack is held.
+/// Items one on another, the last on top: the first `height` of a row of `N`, on no heap. It is
+/// copied as a scene is. That the height is in the row is said where a stack is held.
 #[derive(Clone, Copy, Drop)]
 pub struct Stack<T, const N: usize> {
     pub(crate) items: [T; N],

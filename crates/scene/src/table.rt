@@ -1,15 +1,16 @@
 //! The table of a scene's nodes.
-ghost use Rattle.std.specs.Prelude.{◌≡◌, ℕ, ◌+◌, ◌-◌, ◌<◌, ◌≤◌, min, true, slice_index_or, IfSome};
+ghost use Rattle.std.specs.Prelude.{◌≡◌, ℕ, ◌+◌, ◌-◌, ◌<◌, ◌≤◌, min};
+ghost use Rattle.std.specs.Prelude.{slice_index_or, IsTrue, IfSome};
 ghost use Rattle.lattice.specs.Space.{In};
 ghost use Rattle.scene.specs.declared.node.Join.TheVariants.{Unite};
 ghost use Rattle.scene.specs.declared.node.Node.TheVariants.{Joined};
-ghost use Rattle.scene.specs.Standing.{standing, with_node, can_take, has_one, top, rest, IsStart};
-ghost use Rattle.scene.specs.Bounds.{IsBound};
-ghost use Rattle.scene.specs.Parts.{last_body, Unites};
+ghost use Rattle.scene.specs.declared.table.TheConstants.{MOST_NODES};
+ghost use Rattle.scene.specs.Standing.{with_node, can_take, bodies_after, has_one};
+ghost use Rattle.scene.specs.Standing.{before_last, IsStart};
 
-use super::bound::Bound;
-use super::node::{Join, Node};
-use super::stack::Stack;
+use crate::bound::Bound;
+use crate::node::{Join, Node};
+use crate::stack::Stack;
 use lattice::Point;
 use leaves::LeafPoint;
 
@@ -17,21 +18,27 @@ use leaves::LeafPoint;
 pub const MOST_NODES: usize = 256;
 
 /// Nodes in the order in which they were laid down, each of which found what it takes.
-// They stand in a row, each after those that it takes: a tree of boxes takes heap, and this takes none.
+// They stand in a row, each after those that it takes: a tree of boxes would take heap.
 #[derive(Clone, Copy)]
 pub struct Table {
     nodes: Stack<Node, MOST_NODES>,
     /// For each node, how many were laid down before it and all that it takes.
     starts: [u8; MOST_NODES],
-    ghost room: { nodes.height ≤ 256 },
-    ghost sound: { (k : ℕ) → k < nodes.height → can_take (slice_index_or nodes.items k (Joined Unite)) (standing nodes.items k) ≡ true },
-    ghost started: { (k : ℕ) → k < nodes.height → IsStart nodes.items k (slice_index_or starts k 0) },
+    ghost count_in_range: { nodes.height ≤ MOST_NODES },
+    ghost each_can_take: { (k : ℕ) → k < nodes.height →
+        IsTrue (can_take (slice_index_or nodes.items k (Joined Unite))
+        (bodies_after nodes.items k)) },
+    ghost are_starts: { (k : ℕ) → k < nodes.height →
+        IsStart nodes.items k (slice_index_or starts k 0) },
 }
 
 impl Table {
+    ghost use Rattle.scene.specs.Bounds.{IsBound};
+    ghost use Rattle.scene.specs.Tables.{table_count, bodies_at, body_at, bodies_of, UnitesAt};
+
     /// A table of no nodes.
     pub(crate) fn new() -> Table
-        ensures { result.nodes.height ≡ 0 }
+        ensures { table_count result ≡ 0 }
     {
         Table {
             nodes: Stack::new(Node::Joined(Join::Unite)),
@@ -41,17 +48,17 @@ impl Table {
 
     /// How many nodes are laid down.
     pub(crate) fn count(&self) -> usize
-        ensures { result ≡ self.now.nodes.height }
+        ensures { result ≡ table_count self.now }
     {
         self.nodes.height
     }
 
     /// Lays down one node more.
     pub(crate) fn push(&mut self, node: Node)
-        requires room { self.old.nodes.height < 256 }
-        requires fit { can_take node (standing self.old.nodes.items self.old.nodes.height) ≡ true }
-        ensures counted { self.new.nodes.height ≡ self.old.nodes.height + 1 }
-        ensures made { standing self.new.nodes.items self.new.nodes.height ≡ with_node node (standing self.old.nodes.items self.old.nodes.height) }
+        requires room { table_count self.old < MOST_NODES }
+        requires fit { IsTrue (can_take node (bodies_of self.old)) }
+        ensures counted { table_count self.new ≡ table_count self.old + 1 }
+        ensures made { bodies_of self.new ≡ with_node node (bodies_of self.old) }
     {
         self.starts[self.nodes.height] = self.start_with(&node) as u8;
         self.nodes.push(node);
@@ -59,9 +66,10 @@ impl Table {
 
     /// How many nodes come before one more and all that it takes.
     fn start_with(&self, node: &Node) -> usize
-        requires { can_take node.now (standing self.now.nodes.items self.now.nodes.height) ≡ true }
-        ensures earlier { result ≤ self.now.nodes.height }
-        ensures before { standing self.now.nodes.items result ≡ rest (with_node node.now (standing self.now.nodes.items self.now.nodes.height)) }
+        requires { IsTrue (can_take node.now (bodies_of self.now)) }
+        ensures earlier { result ≤ table_count self.now }
+        ensures before { bodies_at self.now result ≡
+            before_last (with_node node.now (bodies_of self.now)) }
     {
         let count = self.nodes.height;
         match node {
@@ -75,8 +83,8 @@ impl Table {
     #[inline(always)]
     fn start_of(&self, end: usize) -> usize
         requires some { 1 ≤ end }
-        requires laid { end ≤ self.now.nodes.height }
-        ensures before { standing self.now.nodes.items result ≡ rest (standing self.now.nodes.items end) }
+        requires laid { end ≤ table_count self.now }
+        ensures before { bodies_at self.now result ≡ before_last (bodies_at self.now end) }
         ensures fewer { result < end }
     {
         self.starts[end - 1] as usize
@@ -86,9 +94,10 @@ impl Table {
     #[inline(always)]
     fn last_of(&self, end: usize) -> &Node
         requires some { 1 ≤ end }
-        requires laid { end ≤ self.now.nodes.height }
-        ensures made { standing self.now.nodes.items end ≡ with_node result.now (standing self.now.nodes.items (end - 1)) }
-        ensures fit { can_take result.now (standing self.now.nodes.items (end - 1)) ≡ true }
+        requires laid { end ≤ table_count self.now }
+        ensures made { bodies_at self.now end ≡
+            with_node result.now (bodies_at self.now (end - 1)) }
+        ensures fit { IsTrue (can_take result.now (bodies_at self.now (end - 1))) }
     {
         &self.nodes.items[end - 1]
     }
@@ -97,8 +106,8 @@ impl Table {
     /// is no union.
     pub(crate) fn united_at(&self, end: usize) -> Option<usize>
         requires some { 1 ≤ end }
-        requires laid { end ≤ self.now.nodes.height }
-        ensures { IfSome result (Unites self.now.nodes.items end) }
+        requires laid { end ≤ table_count self.now }
+        ensures { IfSome result (UnitesAt self.now end) }
     {
         match self.last_of(end) {
             Node::Joined(join) => match join {
@@ -112,8 +121,8 @@ impl Table {
     /// A bound about the body that stands last once `end` nodes are laid down.
     pub(crate) fn bound_of(&self, end: usize) -> Bound
         requires some { 1 ≤ end }
-        requires laid { end ≤ self.now.nodes.height }
-        ensures { IsBound result (last_body self.now.nodes.items end) }
+        requires laid { end ≤ table_count self.now }
+        ensures { IsBound result (body_at self.now end) }
     {
         match self.last_of(end) {
             Node::Leaf(leaf) => leaf.bound(),
@@ -124,10 +133,10 @@ impl Table {
     /// As `ask`, of what is mostly a leaf.
     #[inline(always)]
     pub(crate) fn ask_part(&self, end: usize, p: LeafPoint, most: u32) -> u32
-        requires laid { end ≤ self.now.nodes.height }
-        requires stands { has_one (standing self.now.nodes.items end) ≡ true }
-        requires near { In (top (standing self.now.nodes.items end)).reach p.at }
-        ensures { result ≡ min most ((top (standing self.now.nodes.items end)).clear p.at) }
+        requires laid { end ≤ table_count self.now }
+        requires stands { IsTrue (has_one (bodies_at self.now end)) }
+        requires near { In (body_at self.now end).reach p.at }
+        ensures { result ≡ min most ((body_at self.now end).clear p.at) }
     {
         if let Node::Leaf(leaf) = self.last_of(end) {
             return leaf.clear_up_to(p, most);
@@ -138,10 +147,10 @@ impl Table {
     /// The clearance of the body that stands last once `end` nodes are laid down, or `most` where
     /// that is smaller.
     pub(crate) fn ask(&self, end: usize, p: Point, most: u32) -> u32
-        requires laid { end ≤ self.now.nodes.height }
-        requires stands { has_one (standing self.now.nodes.items end) ≡ true }
-        requires near { In (top (standing self.now.nodes.items end)).reach p }
-        ensures { result ≡ min most ((top (standing self.now.nodes.items end)).clear p) }
+        requires laid { end ≤ table_count self.now }
+        requires stands { IsTrue (has_one (bodies_at self.now end)) }
+        requires near { In (body_at self.now end).reach p }
+        ensures { result ≡ min most ((body_at self.now end).clear p) }
     {
         let last = end - 1;
         match self.last_of(end) {

@@ -4,6 +4,7 @@ use Rattle.std.proofs.lemmas.Bool.{le-leb, leb-true, cond-true, cond-false, cond
 use Rattle.lattice.specs.Space.{within, In}
 use Rattle.lattice.specs.declared.Point.{Point}
 use Rattle.solid.specs.declared.QuestionFault.TheVariants.{BeyondReach}
+use Rattle.solid.specs.declared.TheConstants.{MOST_CLEARANCE}
 use Rattle.solid.specs.Body.{Body, Lawful}
 use Rattle.solid.specs.Answer.{answer, answer_up_to, membership}
 
@@ -21,8 +22,14 @@ pub up_to_in : (m : ℕ) (b : Body) (p : Point) → In b.reach p → answer_up_t
 up_to_in m b p i = cond-true _ _ _ (in_within b.reach p i)
 
 -- no clearance is above the limit that the laws set, so that a question up to it is one with no limit
-pub up_to_most : (b : Body) (p : Point) → Lawful b → answer_up_to 2097151 b p ≡ answer b p
+pub up_to_most : (b : Body) (p : Point) → Lawful b → answer_up_to MOST_CLEARANCE b p ≡ answer b p
 up_to_most b p l =
-    cond_both (within b.reach p) (Ok (b.clear p)) (Err BeyondReach) (λ r. answer_up_to 2097151 b p ≡ r)
-    (λ w. let i = within_in b.reach p w in let e : min 2097151 (b.clear p) ≡ b.clear p = omega (arith, l.small p i) in up_to_in 2097151 b p i ∙ ap Ok e)
+    cond_both (within b.reach p) (Ok (b.clear p)) (Err BeyondReach) (λ r. answer_up_to MOST_CLEARANCE b p ≡ r)
+    in_reach
     (λ w. cond-false _ _ _ w)
+  where
+    in_reach : within b.reach p ≡ true → answer_up_to MOST_CLEARANCE b p ≡ Ok (b.clear p)
+    in_reach w =
+        let i = within_in b.reach p w in
+        let least : min MOST_CLEARANCE (b.clear p) ≡ b.clear p = omega (arith, l.small p i) in
+        up_to_in MOST_CLEARANCE b p i ∙ ap Ok least

@@ -13,7 +13,7 @@ check_asked reach p = if within reach p then Ok tt else Err BeyondReach
 abbrev pub answer : Body → Point → Result ℕ QuestionFault
 answer b p = if within b.reach p then Ok (b.clear p) else Err BeyondReach
 
--- the same, asked up to a limit: a clearance above it is told as the limit
+-- the same, asked up to a limit: a clearance above it is answered by the limit
 abbrev pub answer_up_to : (most : ℕ) → Body → Point → Result ℕ QuestionFault
 answer_up_to most b p = if within b.reach p then Ok (min most (b.clear p)) else Err BeyondReach
 

@@ -4,8 +4,8 @@ use Rattle.lattice.specs.Space.{dist, In}
 use Rattle.solid.specs.declared.TheConstants.{MOST_REACH, MOST_CLEARANCE}
 use Rattle.lattice.specs.declared.Point.{Point}
 
--- A body: a set of points (its members, by their characteristic function), a reach, a clearance at each point, and whether it
--- is marked as exact. Only the clearances within the reach are told, so only they come under the laws.
+-- A body: a set of points (its members, by their characteristic function), a reach, a clearance at each point, and
+-- whether it is marked as exact. Only the clearances within the reach are answered, so only they come under the laws.
 pub record Body : Type 0 where
   pub member : Point → Bool
   pub reach : ℕ
@@ -25,4 +25,5 @@ pub record Lawful (b : Body) : Type 0 where
   -- the clearances of two points differ by at most their distance
   pub slope : (p q : Point) → In b.reach p → In b.reach q → b.clear p ≤ b.clear q + dist p q
   -- where the body is marked as exact, some member lies at exactly the clearance
-  pub touched : b.exact ≡ true → (p : Point) → In b.reach p → (q : Point) × ((b.member q ≡ true) × (dist p q ≡ b.clear p))
+  pub touched : b.exact ≡ true → (p : Point) → In b.reach p
+      → (q : Point) × ((b.member q ≡ true) × (dist p q ≡ b.clear p))

@@ -2,7 +2,7 @@
 //! lattice, known only by the clearances that it answers.
 #![tactic(auto)]
 
-ghost use Rattle.std.specs.Prelude.{◌≡◌, ℕ, ◌≤◌, true, Some};
+ghost use Rattle.std.specs.Prelude.{◌≡◌, ℕ, ◌≤◌, IsTrue, Some};
 ghost use Rattle.refusal.specs.Texts.{refusal_text};
 ghost use Rattle.solid.specs.Body.{Body, Lawful};
 ghost use Rattle.solid.specs.Answer.{answer, answer_up_to, check_asked};
@@ -69,8 +69,8 @@ pub trait Solid {
     fn clearance(&self, p: Point) -> Result<u32, QuestionFault>
         ensures { result ≡ answer (body self.now) p };
 
-    /// The clearance, or `most` where that is smaller. A solid that can tell sooner that its clearance
-    /// is at least `most` gives this a body of its own.
+    /// The clearance, or `most` where that is smaller. A solid that can see sooner that its
+    /// clearance is at least `most` gives this a body of its own.
     fn clearance_up_to(&self, p: Point, most: u32) -> Result<u32, QuestionFault>
         ensures { result ≡ answer_up_to most (body self.now) p }
     {
@@ -84,7 +84,7 @@ pub trait Solid {
 /// bodies that are marked; this says that the body is.
 pub trait Exact: Solid {
     fn exactly(&self)
-        ensures { (Self.Solid.body self.now).exact ≡ true };
+        ensures { IsTrue (Self.Solid.body self.now).exact };
 }
 
 /// A solid that is lent is one.

@@ -1,18 +1,18 @@
-//! One task from beginning to end, told in printed lines.
+//! One task from beginning to end, in printed lines.
 #![tactic(auto)]
 
 use anyhow::anyhow;
 use lattice::Point;
 use layers::{Cap, Meet, Shift, Thicken, Unite};
 use leaves::{AxisBox, Ball};
-use march::{Marching, Outcome, Settled, Stepped, ViewNumbers};
+use march::{MOST_FAR, Marching, Outcome, Settled, Stepped, ViewNumbers};
 use solid::Solid;
 use std::fmt;
 
 mod played;
 
-/// No ray takes more steps than this: its far is at most 4,095, and each step goes on by 1 or more.
-const MOST_STEPS: u32 = 4096;
+/// No ray takes more steps than this: each goes on by 1 or more.
+const MOST_STEPS: u32 = MOST_FAR as u32 + 1;
 
 fn refused<F: fmt::Display>(rt: &HostRuntime, what: &str, fault: &F) -> anyhow::Result<()> {
     println!(rt; "{what} is {fault}")?;

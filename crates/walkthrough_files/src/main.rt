@@ -4,7 +4,7 @@
 use anyhow::anyhow;
 use march::Pixel;
 use picture::{tell_answer, tell_changes, tell_words, words_of};
-use render::{MOST_BYTES, MOST_PIXELS, render};
+use render::{JOB_WORDS, MOST_BYTES, MOST_PIXELS, render};
 use words::WORD;
 
 mod model;
@@ -14,7 +14,6 @@ mod picture;
 /// the scene in the file.
 const PLACE: usize = 4;
 
-const JOB_WORDS: usize = 20;
 /// The damaged word's last byte, which has its kind, and what is put there.
 const DAMAGED_BYTE: usize = WORD * (JOB_WORDS + PLACE) + 3;
 
@@ -23,7 +22,7 @@ const DAMAGE: u8 = 0x70;
 /// Renders a file, tells what the answer says, and gives its words.
 fn rendered(rt: &HostRuntime, file: &[u8]) -> anyhow::Result<Vec<u32>> {
     let heap = rt.alloc();
-    // The kit uses no heap: what it works on is lent to it.
+    // The call uses no heap: what it works on is lent to it.
     let mut records = Vec::new(heap);
     records.resize(MOST_PIXELS, Pixel::Miss { probes: 0 })?;
     let mut out = Vec::new(heap);

@@ -90,8 +90,8 @@ fn tell_refusal(rt: &HostRuntime, word: u32) -> anyhow::Result<()> {
     let part = (word >> 24) & 0xf;
     let number = (word >> 16) & 0xff;
     let place = lower(word);
-    let told = RefusalCode { number, place };
-    println!(rt; "{word:08x}: part {part} is {told}")?;
+    let code = RefusalCode { number, place };
+    println!(rt; "{word:08x}: part {part} is {code}")?;
     Ok(())
 }
 

@@ -5,7 +5,8 @@ use Rattle.std.proofs.lemmas.Int.{ints}
 use Rattle.std.proofs.lemmas.Bool.Decides.{nat_tests}
 use Rattle.lattice.specs.declared.Point.{Point}
 use Rattle.words.specs.declared.fault.WordFault.TheVariants.{Unnamed}
-use Rattle.words.specs.Words.{signed_number, of_kind}
+use Rattle.words.specs.declared.kind.TheConstants.{WORDS_OF_A_KIND}
+use Rattle.words.specs.Words.{signed_number, of_kind, fits_i16}
 use Rattle.refusal.specs.Checks.{unless}
 use Rattle.refusal.specs.Ranges.{between}
 use Rattle.words.specs.Reading.{is_row, word_at, kind_at, bare_at, number_at, number_in, row_at, point_at, point_in}
@@ -36,12 +37,12 @@ module _ (ws rest : List ℕ) (k : ℕ) (h : k < length ws) where
   unfolding word_at
   word_back l = let p = sum_back ws rest k h l in let q : leb (4 * k + 4) (length (bytes_of ws ++ rest)) ≡ true = let r = room ws rest k h in grind (arith, nat_tests) in simp (q, p)
 
-  pub kind_back : (kind least most n : ℕ) → get_or ws k 0 ≡ of_kind kind n → kind < 16 → n < 268435456 → least ≤ kind → kind ≤ most → kind_at (bytes_of ws ++ rest) k least most ≡ Ok (kind, n)
+  pub kind_back : (kind least most n : ℕ) → get_or ws k 0 ≡ of_kind kind n → kind < 16 → n < WORDS_OF_A_KIND → least ≤ kind → kind ≤ most → kind_at (bytes_of ws ++ rest) k least most ≡ Ok (kind, n)
   unfolding kind_at
   kind_back kind least most n e a b c d =
       let w = word_back (omega arith) in
-      let p : of_kind kind n / 268435456 ≡ kind = omega arith in
-      let q : of_kind kind n % 268435456 ≡ n = omega arith in
+      let p : of_kind kind n / WORDS_OF_A_KIND ≡ kind = omega arith in
+      let q : of_kind kind n % WORDS_OF_A_KIND ≡ n = omega arith in
       let f : leb least kind ≡ true = grind (arith, nat_tests) in
       let g : leb kind most ≡ true = grind (arith, nat_tests) in
       simp (w, e, p, q, f, g)
@@ -65,22 +66,22 @@ numbers_back ws rest k (negsuc n) h e l =
     let g : signed_number (65535 - n) ≡ negsuc n = grind (arith, ints, nat_tests) in
     simp p (ap (λ b. unless b (Unnamed k) (Ok (signed_number (65535 - n)))) f ∙ ap Ok g)
 
--- a range of 16-bit numbers
-abbrev pub Ranged : (lo hi : ℤ) → Type 0
-Ranged lo hi = (between (negsuc 32767) (pos 32767) lo ≡ true) × (between (negsuc 32767) (pos 32767) hi ≡ true)
+-- 16 bits hold both ends of a range
+abbrev pub EndsFit : (lo hi : ℤ) → Type 0
+EndsFit lo hi = (fits_i16 lo ≡ true) × (fits_i16 hi ≡ true)
 
-wider : (lo hi n : ℤ) → Ranged lo hi → between lo hi n ≡ true → between (negsuc 32767) (pos 32767) n ≡ true
+wider : (lo hi n : ℤ) → EndsFit lo hi → between lo hi n ≡ true → fits_i16 n ≡ true
 wider lo hi n w r = let a = w.0 in let b = w.1 in grind (arith, ints)
 
-pub number_in_back : (ws rest : List ℕ) (k : ℕ) (lo hi n : ℤ) → k < length ws → get_or ws k 0 ≡ signed_word n → Ranged lo hi → between lo hi n ≡ true → number_in (bytes_of ws ++ rest) k lo hi ≡ Ok n
+pub number_in_back : (ws rest : List ℕ) (k : ℕ) (lo hi n : ℤ) → k < length ws → get_or ws k 0 ≡ signed_word n → EndsFit lo hi → between lo hi n ≡ true → number_in (bytes_of ws ++ rest) k lo hi ≡ Ok n
 unfolding number_in
 number_in_back ws rest k lo hi n h e w r = simp (numbers_back ws rest k n h e (wider lo hi n w r), r)
 
 pub row_back : (ws rest : List ℕ) (k : ℕ) (n : ℤ) → k < length ws → get_or ws k 0 ≡ signed_word n → is_row n ≡ true → row_at (bytes_of ws ++ rest) k ≡ Ok n
 unfolding row_at
-row_back ws rest k n h e r = let l : between (negsuc 32767) (pos 32767) n ≡ true = grind (arith, ints, nat_tests) in simp (numbers_back ws rest k n h e l, r)
+row_back ws rest k n h e r = let l : fits_i16 n ≡ true = grind (arith, ints, nat_tests) in simp (numbers_back ws rest k n h e l, r)
 
-pub point_back : (ws rest : List ℕ) (k : ℕ) (lo hi : ℤ) (p : Point) → k + 2 < length ws → get_or ws k 0 ≡ signed_word p.x → get_or ws (k + 1) 0 ≡ signed_word p.y → get_or ws (k + 2) 0 ≡ signed_word p.z → Ranged lo hi → point_in lo hi p ≡ true → point_at (bytes_of ws ++ rest) k lo hi ≡ Ok p
+pub point_back : (ws rest : List ℕ) (k : ℕ) (lo hi : ℤ) (p : Point) → k + 2 < length ws → get_or ws k 0 ≡ signed_word p.x → get_or ws (k + 1) 0 ≡ signed_word p.y → get_or ws (k + 2) 0 ≡ signed_word p.z → EndsFit lo hi → point_in lo hi p ≡ true → point_at (bytes_of ws ++ rest) k lo hi ≡ Ok p
 unfolding point_at
 point_back ws rest k lo hi p h ex ey ez w r =
     let a = number_in_back ws rest k lo hi p.x (omega arith) ex w (grind arith) in

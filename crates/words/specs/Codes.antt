@@ -1,14 +1,15 @@
--- The number and the place of a word that is refused, a number that names no kind of word, and a word that is not written.
+-- The number and the place of a word that is refused, of a number that names no kind, and of a word that is not written.
 use Rattle.std.specs.Prelude.{ℕ, min}
+use Rattle.words.specs.declared.fault.TheConstants.{GREATEST_PLACE}
 use Rattle.words.specs.declared.fault.WordFault.{WordFault}
 use Rattle.words.specs.declared.fault.WordFault.TheVariants.{Short, Kind, Unnamed, Range, Row}
 use Rattle.words.specs.declared.kind.UnknownKind.{UnknownKind}
 use Rattle.words.specs.declared.writing.PutFault.{PutFault}
 use Rattle.words.specs.declared.writing.PutFault.TheVariants.{NoRoom}
 
--- a place is told in 32 bits; one past them, as the greatest
+-- a place in 32 bits: one past the greatest of them counts as that
 abbrev pub place_as_u32 : ℕ → ℕ
-place_as_u32 k = min k 4294967295
+place_as_u32 k = min k GREATEST_PLACE
 
 abbrev pub word_code : WordFault → ℕ × ℕ
 word_code (Short k) = (1, place_as_u32 k)

@@ -1,9 +1,8 @@
--- The number of each kind of word, and the words of a kind.
-use Rattle.std.specs.Prelude.{◌≡◌, ℕ, ◌%◌, ◌≢◌, MatchResult, Result}
+-- The number of each kind of word.
+use Rattle.std.specs.Prelude.{◌≡◌, ℕ, ◌≢◌, MatchResult, Result}
 use Rattle.words.specs.declared.kind.Kind.{Kind}
 use Rattle.words.specs.declared.kind.Kind.TheVariants.{Scene, Number, Ball, Block, Unite, Meet, Shift, Thicken, Surface, Image, Hit, Miss, Job, Refusal}
 use Rattle.words.specs.declared.kind.UnknownKind.{UnknownKind}
-use Rattle.words.specs.Words.{of_kind}
 
 abbrev pub kind_number : Kind → ℕ
 kind_number Scene = 1
@@ -21,10 +20,8 @@ kind_number Miss = 12
 kind_number Job = 13
 kind_number Refusal = 14
 
--- the kind of this number, or the number, which no kind has
+-- the answer is the kind of this number, or the number, which no kind has
 abbrev pub Names : ℕ → Result Kind UnknownKind → Type 0
-Names n r = MatchResult r (λ kind. kind_number kind ≡ n) (λ e. (e.0 ≡ n) × ((kind : Kind) → kind_number kind ≢ n))
-
--- the word of a kind whose other bits are the low 28 of a number
-abbrev pub kind_word : Kind → (rest : ℕ) → ℕ
-kind_word kind rest = of_kind (kind_number kind) (rest % 268435456)
+Names n r = MatchResult r
+    (λ kind. kind_number kind ≡ n)
+    (λ e. (e.0 ≡ n) × ((kind : Kind) → kind_number kind ≢ n))

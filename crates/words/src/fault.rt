@@ -21,11 +21,14 @@ pub enum WordFault {
     Row { place: usize },
 }
 
-/// A place as it is told: one past the highest is told as the highest.
+/// The greatest place that a refusal names.
+const GREATEST_PLACE: u32 = u32::MAX;
+
+/// A place in 32 bits: one past the greatest of them counts as that.
 pub fn place_as_u32(place: usize) -> u32
     ensures { result ≡ place_as_u32 place }
 {
-    u32::try_from(place).unwrap_or(u32::MAX)
+    u32::try_from(place).unwrap_or(GREATEST_PLACE)
 }
 
 impl Refusal for WordFault {

@@ -2,7 +2,8 @@
 ghost use Rattle.std.specs.Prelude.{◌≡◌, Some};
 ghost use Rattle.refusal.specs.Texts.{refusal_text};
 ghost use Rattle.words.specs.Codes.{kind_code};
-ghost use Rattle.words.specs.Kinds.{kind_number, kind_word, Names};
+ghost use Rattle.words.specs.Kinds.{kind_number, Names};
+ghost use Rattle.words.specs.Words.{kind_word};
 
 use refusal::{Refusal, RefusalCode, Rule};
 use std::fmt;
@@ -64,11 +65,11 @@ impl fmt::Display for UnknownKind {
     }
 }
 
-/// How many words there are of a kind: bits 31..28 of a word are its kind's number, and the other 28
-/// are its rest.
-pub(crate) const WORDS: u32 = 0x1000_0000;
+/// How many words there are of a kind: bits 31..28 of a word are its kind's number, and the other
+/// 28 are its rest.
+pub(crate) const WORDS_OF_A_KIND: u32 = 0x1000_0000;
 
-/// By which the first of two numbers stands in a word: it has bits 27..16, and the second 15..0.
+/// What the first of two numbers is multiplied by in a word: it has bits 27..16, the second 15..0.
 pub const FIRST_OF_TWO: u32 = 0x1_0000;
 
 impl Kind {
@@ -83,7 +84,7 @@ impl Kind {
     pub fn word(self, rest: u32) -> u32
         ensures { result ≡ kind_word self rest }
     {
-        self.number() * WORDS + rest % WORDS
+        self.number() * WORDS_OF_A_KIND + rest % WORDS_OF_A_KIND
     }
 }
 

@@ -7,7 +7,7 @@ ghost use Rattle.words.specs.Writing.{word_put};
 use refusal::{Refusal, RefusalCode, Rule};
 use std::fmt;
 
-/// The bytes of a word.
+/// How many bytes a word has.
 pub const WORD: usize = 4;
 
 /// Why a word is not written.
@@ -39,8 +39,8 @@ impl fmt::Display for PutFault {
     }
 }
 
-/// Writes word k of the bytes, the least significant byte first. Refused, with 21, where they have no
-/// word k, and then nothing is written.
+/// Writes word k of the bytes, the least significant byte first. Refused, with 21, where they have
+/// no word k, and then nothing is written.
 pub fn put(out: &mut [u8], k: usize, word: u32) -> Result<(), PutFault>
     ensures { (result, out.new) ≡ word_put k word out.old }
 {

@@ -1,6 +1,6 @@
 use Rattle.std.proofs.Common.{Err, ap, ◌∙◌}
 use Rattle.std.proofs.lemmas.Result.{err_from_is_err_and}
-use Rattle.piles.proofs.Asked.{refused_alike, told_alike, of_pile}
+use Rattle.piles.proofs.Asked.{refused_alike, member_alike, of_pile}
 use Rattle.piles.proofs.Piles.{piles_stand}
 use Rattle.piles.proofs.is_member.Goals as goal
 
@@ -17,5 +17,5 @@ pub returns : goal.returns
 returns g c =
     let b = g.S.Solid.body c.args.solid.now in
     let p = c.args.p in
-    let v = told_alike b p c.in_ok-c.c (g.met.S.Solid.lawful c.args.solid.now) c.in_ok-c.ensures in
+    let v = member_alike b p c.in_ok-c.c (g.met.S.Solid.lawful c.args.solid.now) c.in_ok-c.ensures in
     record { value = v; algebra = of_pile b p _ v; piles = piles_stand }

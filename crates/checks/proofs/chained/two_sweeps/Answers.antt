@@ -1,12 +1,11 @@
-use Rattle.std.proofs.Common.{◌≡◌, List, length, Ok, Err, ap, ◌∙◌, rules}
-use Rattle.march.specs.declared.pixel.Pixel.{Pixel}
+use Rattle.std.proofs.Common.{◌≡◌, Ok, Err, ap, ◌∙◌, rules}
 use Rattle.march.specs.declared.view.View.{View}
-use Rattle.march.specs.Checks.{plain_view, view_answer}
+use Rattle.march.specs.Checks.{plain_view}
 use Rattle.plate_log.proofs.Opens.{opened_is}
 use Rattle.plate_log.specs.Log.{refused}
-use Rattle.checks.specs.Chained.{opens, reads}
+use Rattle.checks.specs.Chained.{read_refusal}
 use Rattle.checks.proofs.Chain.{chained}
-use Rattle.checks.proofs.Ends.{opened_ends, swept_ends, read_ends, at_first, at_second, at_read}
+use Rattle.checks.proofs.Ends.{lent_ends, swept_ends, read_ends, at_first, at_second, at_read}
 use Rattle.checks.proofs.Records.{after_one, after_two, of_lent}
 use Rattle.checks.proofs.chained.two_sweeps.Goals as goal
 
@@ -20,11 +19,11 @@ returns-in_err-sweep g c =
     let opened = c.in_ok-open.ensures.value in
     let e = c.in_err-sweep.field-0.0 in
     let first = c.in_err-sweep.ensures.line in
-    let lent = c.new-plate.ensures.value.0 in
+    let lent = c.new-plate.ensures.records in
     let r : c.from_residual-in_err-sweep.result ≡ Err e = search rules in
-    let o = opened_ends ns (plain_view p.view) (plain_view p0.view) p.records.now p0.records.now (Ok tt) opened ∙ ap (λ (rs : List Pixel). opens (view_answer ns) (length rs)) lent in
+    let o = lent_ends ns (plain_view p.view) (plain_view p0.view) p.records.now _ p0.records.now (Ok tt) opened lent in
     record {
-      ends = at_first _ _ _ _ _ _ e (plain_view p0.view) r o (swept_ends p0.view p0.records.now _ a c.args.m (Err e) first);
+      refused = at_first _ _ _ _ _ _ e (plain_view p0.view) r o (swept_ends p0.view p0.records.now _ a c.args.m (Err e) first);
       picture = search rules;
       records = of_lent ns a b c.args.m c.args.n _ _ _ lent
           (after_one ns (plain_view p.view) p.records.now a b c.args.m c.args.n p0.view p0.records.now opened e _ _ first (search rules));
@@ -42,11 +41,11 @@ returns-in_err-sweep-2 g c =
     let e = c.in_err-sweep-2.field-0.0 in
     let first = c.in_ok-sweep.ensures.line in
     let second = c.in_err-sweep-2.ensures.line in
-    let lent = c.new-plate.ensures.value.0 in
+    let lent = c.new-plate.ensures.records in
     let r : c.from_residual-in_err-sweep-2.result ≡ Err e = search rules in
-    let o = opened_ends ns (plain_view p.view) (plain_view p0.view) p.records.now p0.records.now (Ok tt) opened ∙ ap (λ (rs : List Pixel). opens (view_answer ns) (length rs)) lent in
+    let o = lent_ends ns (plain_view p.view) (plain_view p0.view) p.records.now _ p0.records.now (Ok tt) opened lent in
     record {
-      ends = at_second _ _ _ _ _ _ e (plain_view p0.view) r o
+      refused = at_second _ _ _ _ _ _ e (plain_view p0.view) r o
           (swept_ends p0.view p0.records.now _ a c.args.m (Ok c.in_ok-sweep.field-0) first)
           (swept_ends p1.view p1.records.now _ b c.args.n (Err e) second);
       picture = search rules;
@@ -67,14 +66,14 @@ returns g c =
     let opened = c.in_ok-open.ensures in
     let first = c.in_ok-sweep.ensures.line in
     let second = c.in_ok-sweep-2.ensures.line in
-    let lent = c.new-plate.ensures.value.0 in
-    let o = opened_ends ns (plain_view p.view) (plain_view p0.view) p.records.now p0.records.now (Ok tt) opened.value ∙ ap (λ (rs : List Pixel). opens (view_answer ns) (length rs)) lent in
+    let lent = c.new-plate.ensures.records in
+    let o = lent_ends ns (plain_view p.view) (plain_view p0.view) p.records.now _ p0.records.now (Ok tt) opened.value lent in
     record {
-      ends = at_read _ _ _ _ _ _ (plain_view p0.view) o
+      refused = at_read _ _ _ _ _ _ (plain_view p0.view) o
           (swept_ends p0.view p0.records.now _ a c.args.m (Ok c.in_ok-sweep.field-0) first)
           (swept_ends p1.view p1.records.now _ b c.args.n (Ok c.in_ok-sweep-2.field-0) second)
           (read_ends p2.view p2.records.now _ c.args.i c.args.j c.read.result c.read.ensures.line
-          ∙ ap (λ (v : View). reads (plain_view v) c.args.i c.args.j) (c.sweep-2.ensures.view ∙ c.sweep.ensures.view));
+          ∙ ap (λ (v : View). read_refusal (plain_view v) c.args.i c.args.j) (c.sweep-2.ensures.view ∙ c.sweep.ensures.view));
       picture = chained p0.view p1.view p2.view c.sweep.ensures.view c.sweep-2.ensures.view
           ns (opened_is ns (plain_view p.view) p.records.now (plain_view p0.view) p0.records.now opened.value)
           a b c.args.m c.args.n c.args.i c.args.j

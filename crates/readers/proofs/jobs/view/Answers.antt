@@ -1,6 +1,6 @@
 use Rattle.std.proofs.Common.{rules, sym}
 use Rattle.words.specs.Cursor.{text}
-use Rattle.readers.proofs.Numbers.{view_read}
+use Rattle.readers.proofs.JobViews.{view_read}
 use Rattle.readers.proofs.jobs.view.Goals as goal
 
 pub returns-clause-value : goal.returns-clause-value

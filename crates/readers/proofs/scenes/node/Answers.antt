@@ -2,10 +2,10 @@ use Rattle.std.proofs.Common.{◌≡◌, ◌+◌, IfOk, Ok, sym, refl, ◌∙◌
 use Rattle.words.specs.Cursor.{text, place}
 use Rattle.words.specs.Reading.{answer_with, bare_at}
 use Rattle.scene.specs.States.{state}
-use Rattle.readers.specs.Kinds.{kind_of, numbers}
+use Rattle.readers.specs.Kinds.{kind_of, number_count}
 use Rattle.readers.specs.Scenes.{node_check, lay_at}
-use Rattle.readers.proofs.Named.{node_word}
-use Rattle.readers.proofs.Laying.{passes, joined, node_is, made_on}
+use Rattle.readers.proofs.SceneKinds.{node_word}
+use Rattle.readers.proofs.SceneNodes.{passes, joined, node_is, made_on}
 use Rattle.readers.proofs.scenes.node.Goals as goal
 
 pub unwrap-kind-requires : goal.unwrap-kind-requires
@@ -31,7 +31,7 @@ returns c =
     let e : kind ≡ kind_of c.in_ok-number.number = cc (t, c.unwrap-kind.ensures) in
     let h : node_check c.args.count k x.0 kind x.1 ≡ Ok c.in_ok-check.field-0 = search rules in
     let v : answer_with c.lay.result (state c.lay.new.draft).1 ≡ lay_at bs k kind x.1 = search rules in
-    let l : IfOk c.lay.result (λ _. place c.lay.new.from ≡ k + 1 + numbers kind) = subst (λ z. IfOk c.lay.result (λ _. place c.lay.new.from ≡ z + 1 + numbers kind)) p c.lay.ensures.moved in
+    let l : IfOk c.lay.result (λ _. place c.lay.new.from ≡ k + 1 + number_count kind) = subst (λ z. IfOk c.lay.result (λ _. place c.lay.new.from ≡ z + 1 + number_count kind)) p c.lay.ensures.moved in
     let w = (passes c.args.count k x.0 kind x.1 _ h).1 in
     record {
       value = joined c.lay.result _ _ _ _ v l ∙ sym (node_is bs c.args.count k x.0 x.1 _ kind _ b e h);

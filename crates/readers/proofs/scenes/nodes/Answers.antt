@@ -2,7 +2,7 @@ use Rattle.std.proofs.Common.{◌≡◌, Ok, Err, sym, ◌∙◌, arith, rules}
 use Rattle.words.specs.Cursor.{text, place}
 use Rattle.scene.specs.States.{state}
 use Rattle.readers.specs.Scenes.{node_at}
-use Rattle.readers.proofs.Turns.{at_end, stop, go_on}
+use Rattle.readers.proofs.SceneTurns.{at_end, stop, go_on}
 use Rattle.readers.proofs.scenes.nodes.Goals as goal
 
 pub loop-from-preserved : goal.loop-from-preserved

@@ -8,7 +8,7 @@ use Rattle.readers.proofs.scenes.nodes.Given as goal
 abbrev pub invariant-loop-from : goal.invariant-loop-from
 invariant-loop-from l =
     (nodes_from l.count (text l.initial.from) l.count 1 0 [] ≡ nodes_from (l.count - (state l.draft).0) (text l.initial.from) l.count (place l.from) (state l.draft).0 (state l.draft).1)
-    × (l.from.bytes ≡ l.initial.from.bytes)
+    × (text l.from ≡ text l.initial.from)
     × (place l.from ≤ l.count + 1)
     × ((state l.draft).0 < place l.from)
 

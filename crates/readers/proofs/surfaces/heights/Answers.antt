@@ -2,7 +2,7 @@ use Rattle.std.proofs.Common.{◌≡◌, ◌++◌, take, take_all, Ok, Err, sym,
 use Rattle.std.specs.Result.{result_map_both}
 use Rattle.std.proofs.lemmas.Int.{to_z-of_z}
 use Rattle.words.specs.Reading.{number_at}
-use Rattle.readers.proofs.Sheets.{stop, go_on, at_end}
+use Rattle.readers.proofs.SurfaceTurns.{stop, go_on, at_end}
 use Rattle.readers.proofs.surfaces.heights.Goals as goal
 
 pub returns-in_err-height-clause-value : goal.returns-in_err-height-clause-value

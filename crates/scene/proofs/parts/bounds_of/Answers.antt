@@ -2,7 +2,8 @@ use Rattle.std.proofs.Common.{◌/◌, ◌<◌, length, ap, ◌∙◌, arith}
 use Rattle.std.proofs.Math.ListN.{length-set}
 use Rattle.std.proofs.lemmas.List.{get_or_default}
 use Rattle.scene.specs.declared.parts.Part.{Part}
-use Rattle.scene.proofs.Stacks.{some_laid}
+use Rattle.scene.specs.declared.parts.TheConstants.{GROUP}
+use Rattle.scene.proofs.Takes.{some_laid}
 use Rattle.scene.proofs.Groups.{bounds_more}
 use Rattle.scene.proofs.parts.bounds_of.Goals as goal
 
@@ -17,7 +18,7 @@ loop-i-preserved c =
     let bs = c.loop-i.bounds in
     let i = c.loop-i.i in
     let l : i < length row = omega arith in
-    let room : i / 8 < length bs = omega (arith, c.loop-i.invariant.0) in (
-      length-set bs (i / 8) c.with.result ∙ c.loop-i.invariant.0,
+    let room : i / GROUP < length bs = omega (arith, c.loop-i.invariant.0) in (
+      length-set bs (i / GROUP) c.with.result ∙ c.loop-i.invariant.0,
       bounds_more ns row bs i _ c.index-bounds-i.result c.with.result c.bound_of-bound.result c.loop-i.invariant.1 room c.with.ensures.this c.with.ensures.other c.bound_of-bound.ensures (λ d. ap (λ (x : Part). x.end) (get_or_default row i d _ l)),
     )

@@ -8,4 +8,5 @@ use Rattle.leaves.proofs.axis_box.AxisBoxSolid.clearance.Goals as goal
 pub returns : goal.returns
 returns c =
     let s = c.args.self.now in
-    c.clearance_up_to.ensures ∙ up_to_most (block s.lo s.hi) c.args.p (block_lawful s.lo s.hi (placement_in s.lo s.lo_is_placement) (placement_in s.hi s.hi_is_placement) s.upright)
+    c.clearance_up_to.ensures ∙ up_to_most (block s.lo s.hi) c.args.p
+    (block_lawful s.lo s.hi (placement_in s.lo s.lo_is_placement) (placement_in s.hi s.hi_is_placement) s.in_order)

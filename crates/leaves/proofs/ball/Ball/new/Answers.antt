@@ -1,21 +1,15 @@
 use Rattle.std.proofs.Common.{rules}
 use Rattle.std.proofs.lemmas.Int.{to_z-of_z}
 use Rattle.piles.proofs.Balls.{smallest_stands}
-use Rattle.leaves.specs.Made.{point_ranged, ranged}
 use Rattle.leaves.proofs.ball.Ball.new.Goals as goal
 
 pub returns-in_err-check_point-clause-smallest : goal.returns-in_err-check_point-clause-smallest
 returns-in_err-check_point-clause-smallest c = smallest_stands
 
-pub returns-in_err-radius-clause-value : goal.returns-in_err-radius-clause-value
-unfolding point_ranged ranged
-returns-in_err-radius-clause-value c = search rules
-
 pub returns-in_err-radius-clause-smallest : goal.returns-in_err-radius-clause-smallest
 returns-in_err-radius-clause-smallest c = smallest_stands
 
 pub returns-clause-value : goal.returns-clause-value
-unfolding point_ranged ranged
 returns-clause-value c = search (rules, to_z-of_z)
 
 pub returns-clause-smallest : goal.returns-clause-smallest

@@ -14,5 +14,5 @@ loop-height-preserved c = rw add-one (search (rules, to_z-of_z, c.loop-height.in
 pub returns : goal.returns
 returns c =
     let s = c.args.self.now in
-    let n : c.loop-height.height-index ≡ s.size.width * s.size.depth = omega (arith, s.full) in
+    let n : c.loop-height.height-index ≡ s.size.width * s.size.depth = omega (arith, s.a_height_each) in
     c.loop-height.invariant ∙ ap (λ k. greatest k s.heights.now) n

@@ -13,7 +13,7 @@ bounds-self-column c =
     let ey : between (pos 0) (last_column s.size.depth) p.y ≡ true = search (rules, to_z-of_z) in
     let x : to_z w32 (of_z w32 p.x) ≡ p.x = search (rules, to_z-of_z) in
     let y : to_z w32 (of_z w32 p.y) ≡ p.y = search (rules, to_z-of_z) in
-    let below : nat_abs p.y * s.size.width + nat_abs p.x < length s.heights.now = omega (arith, s.full, column_below s.size.width s.size.depth s.heights.now p ex ey) in
+    let below : nat_abs p.y * s.size.width + nat_abs p.x < length s.heights.now = omega (arith, s.a_height_each, column_below s.size.width s.size.depth s.heights.now p ex ey) in
     search (rules, x, y, below)
 
 pub returns : goal.returns

@@ -13,4 +13,4 @@ returns-in-Done g c =
     let b = g.S.Solid.body d.solid.now in
     let s = c.in-Done.settled in
     let e = step_done b (plain_ray c.loop-next.ray) (settled_pixel s) c.in-Done.ensures ∙ c.loop-next.invariant in
-    record { value = e; law = contact b (g.met.S.Solid.lawful d.solid.now) d.far_enough c.args.self s e }
+    record { value = e; law = contact b (g.met.S.Solid.lawful d.solid.now) d.is_deep c.args.self s e }

@@ -1,5 +1,5 @@
 use Rattle.std.proofs.Common.{◌≡◌, Err, ◌∙◌, rules}
-use Rattle.readers.proofs.Named.{no_word}
+use Rattle.readers.proofs.SceneKinds.{no_word}
 use Rattle.readers.proofs.kind.NodeKindTryFromU32.try_from.Goals as goal
 
 pub returns-in_err-try_from : goal.returns-in_err-try_from

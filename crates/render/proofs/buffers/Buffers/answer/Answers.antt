@@ -1,4 +1,4 @@
-use Rattle.render.specs.Models.{parse}
+use Rattle.render.specs.Models.{input_model}
 use Rattle.render.specs.Laws.{Files}
 use Rattle.render.proofs.Wholes.{short_inputs, answered, most_bytes, refused_so, refusal_written}
 use Rattle.render.proofs.Order.{in_order}
@@ -9,7 +9,7 @@ files : Files
 files = record { short = short_inputs; order = in_order; back = inputs_back }
 
 pub returns-in-Ok-clause-value : goal.returns-in-Ok-clause-value
-returns-in-Ok-clause-value c = answered (parse c.args.input.now) c.args.self.now.records.now c.draw.new.self.records.now c.args.self.now.out.now c.draw.new.self.out.now c.in-Ok.length c.in-Ok.ensures.value
+returns-in-Ok-clause-value c = answered (input_model c.args.input.now) c.args.self.now.records.now c.draw.new.self.records.now c.args.self.now.out.now c.draw.new.self.out.now c.in-Ok.length c.in-Ok.ensures.value
 
 pub returns-in-Ok-clause-most : goal.returns-in-Ok-clause-most
 returns-in-Ok-clause-most c = most_bytes c.args.input.now c.args.self.now.records.now c.draw.new.self.records.now c.args.self.now.out.now c.draw.new.self.out.now c.in-Ok.length c.in-Ok.ensures.value

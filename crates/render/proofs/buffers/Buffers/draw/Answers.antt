@@ -29,7 +29,7 @@ invariant_of-sheet c =
     let hs = c.read_parts.new.heights in
     let m = model_of (job_numbers c.in_ok-job.job) (scene_body c.read_parts.new.scene) size hs in
     let s = model_sound c.args.input.now m (sym c.in_ok-job.ensures) in
-    record { wide = (s.sides.0, s.sides.1); deep = (s.sides.2, s.sides.3); full = omega (arith, s.long, length-take (size.width * size.depth) hs, length-take c.columns.result hs, c.columns.ensures) }
+    record { width_in_range = (s.sides.0, s.sides.1); depth_in_range = (s.sides.2, s.sides.3); a_height_each = omega (arith, s.long, length-take (size.width * size.depth) hs, length-take c.columns.result hs, c.columns.ensures) }
 
 pub returns-clause-shows : goal.returns-clause-shows
 returns-clause-shows c =

@@ -14,7 +14,7 @@ loop-group-preserved c =
           let e = w.ask_group-clear.ensures in
           rw w.clear-is (group_asked t.items t.height s.row.items p.at c.args.most g.clear g.group s.row.height w.ask_group-clear.result g.invariant e.most e.whole e.each)
       | else-off-clear w ↦
-          rw w.clear-is (group_passed t.items t.height s.row.items p.at c.args.most s.bounds g.clear g.group s.row.height c.index-self-group.result g.invariant c.requires.bounds p.reached (omega (arith, c.off.ensures, w.if-off-clear.false)))
+          rw w.clear-is (group_passed t.items t.height s.row.items p.at c.args.most s.bounds g.clear g.group s.row.height c.index-self-group.result g.invariant c.requires.bounds p.in_reach (omega (arith, c.off.ensures, w.if-off-clear.false)))
     ]
 
 pub returns : goal.returns

@@ -1,4 +1,4 @@
-use Rattle.scene.proofs.Stacks.{some_laid}
+use Rattle.scene.proofs.Takes.{some_laid}
 use Rattle.scene.proofs.table.Table.ask_part.Goals as goal
 
 pub last_of-requires-clause-some : goal.last_of-requires-clause-some

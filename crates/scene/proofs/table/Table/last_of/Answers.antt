@@ -2,8 +2,8 @@ use Rattle.std.proofs.Common.{◌-◌, ◌<◌, length, sym, ap, ◌∙◌, arit
 use Rattle.std.proofs.lemmas.List.{get_or_default}
 use Rattle.scene.specs.declared.node.Join.TheVariants.{Unite}
 use Rattle.scene.specs.declared.node.Node.TheVariants.{Joined}
-use Rattle.scene.specs.Standing.{with_node, can_take, standing}
-use Rattle.scene.proofs.Gathers.{gathered_last}
+use Rattle.scene.specs.Standing.{with_node, can_take, bodies_after}
+use Rattle.scene.proofs.FirstEntries.{fold_first-last}
 use Rattle.scene.proofs.table.Table.last_of.Goals as goal
 
 pub returns : goal.returns
@@ -13,6 +13,7 @@ returns c =
     let l : k < length ns = omega arith in
     let e = get_or_default ns k (Joined Unite) c.index-self-end.result l in
     record {
-      made = gathered_last with_node _ (Joined Unite) ns c.args.end c.requires.some ∙ ap (λ n. with_node n (standing ns k)) e;
-      fit = ap (λ n. can_take n (standing ns k)) (sym e) ∙ c.args.self.now.sound k (omega arith);
+      made =
+          fold_first-last with_node _ (Joined Unite) ns c.args.end c.requires.some ∙ ap (λ n. with_node n (bodies_after ns k)) e;
+      fit = ap (λ n. can_take n (bodies_after ns k)) (sym e) ∙ c.args.self.now.each_can_take k (omega arith);
     }

@@ -1,6 +1,6 @@
 use Rattle.std.proofs.Common.{inl, inr, ap, ◌∙◌}
 use Rattle.scene.specs.Standing.{has_one}
-use Rattle.scene.proofs.Stacks.{some_laid, two_some, shift_fit, thicken_fit}
+use Rattle.scene.proofs.Takes.{some_laid, one_of_two, shift_fit, thicken_fit}
 use Rattle.scene.proofs.table.Table.start_with.Goals as goal
 
 pub start_of-requires-in-Shift-clause-some : goal.start_of-requires-in-Shift-clause-some
@@ -14,7 +14,7 @@ start_of-requires-in-Shift-clause-some c =
 pub start_of-requires-clause-some : goal.start_of-requires-clause-some
 start_of-requires-clause-some c =
     let s = c.args.self.now.nodes in
-    some_laid s.items s.height (two_some _ (rw c.in-Joined.is at c.requires))
+    some_laid s.items s.height (one_of_two _ (rw c.in-Joined.is at c.requires))
 
 pub start_of-requires-in-Joined-clause-some : goal.start_of-requires-in-Joined-clause-some
 start_of-requires-in-Joined-clause-some c =
