@@ -12,8 +12,8 @@ use Rattle.march.specs.declared.fault.ViewFault.{ViewFault}
 use Rattle.refusal.specs.Checks.{and_then}
 use Rattle.lattice.specs.Rows.{Way, row_of, row_answer}
 use Rattle.refusal.specs.Ranges.{between, in_range, count_in}
-use Rattle.march.specs.declared.view.TheConstants.{LEAST_SIDE, MOST_SIDE, MOST_FAR, ORIGIN_PLACE, WIDTH_PLACE, HEIGHT_PLACE, FAR_PLACE}
-use Rattle.march.specs.Checks.{with_range_fault, with_row_fault, coordinate_answer, origin_answer, ways_answer, sizes_answer, view_answer}
+use Rattle.march.specs.declared.view.TheConstants.{LEAST_SIDE, MOST_SIDE, MOST_FAR}
+use Rattle.march.specs.Checks.{with_range_fault, with_row_fault, coordinate_answer, origin_answer, ways_answer, sizes_answer, view_answer, origin_place, width_place, height_place, far_place}
 
 -- one check after another
 pub then_ok : {A B : Type 0} (r : Result A ViewFault) (next : A → Result B ViewFault) (a : A) → Ok a ≡ r → and_then r next ≡ next a
@@ -77,9 +77,9 @@ pub origin_near : (n : ViewNumbers) (q : Point) → Ok q ≡ origin_answer n →
 unfolding origin_answer
 origin_near n q e =
     let p = n.origin in
-    let a = passed (coordinate_answer p.x ORIGIN_PLACE) _ q e in
-    let b = passed (coordinate_answer p.y (ORIGIN_PLACE + 1)) _ q a.2 in
-    let c = passed (coordinate_answer p.z (ORIGIN_PLACE + 2)) _ q b.2 in
+    let a = passed (coordinate_answer p.x origin_place) _ q e in
+    let b = passed (coordinate_answer p.y (origin_place + 1)) _ q a.2 in
+    let c = passed (coordinate_answer p.z (origin_place + 2)) _ q b.2 in
     let s : q ≡ record { x = a.0; y = b.0; z = c.0 } = cc c.2 in
     subst⁻¹ (In (nat_abs LEAST_COORDINATE)) s
     (coordinate_near p.x a.0 _ a.1, coordinate_near p.y b.0 _ b.1, coordinate_near p.z c.0 _ c.1)
@@ -90,9 +90,9 @@ Small s = (s.0 ≤ nat_abs MOST_SIDE) × (s.1 ≤ nat_abs MOST_SIDE) × (s.2 ≤
 pub sizes_small : (n : ViewNumbers) (s : ℕ × ℕ × ℕ) → Ok s ≡ sizes_answer n → Small s
 unfolding sizes_answer
 sizes_small n s e =
-    let a = passed (with_range_fault (count_in n.width LEAST_SIDE MOST_SIDE WIDTH_PLACE)) _ s e in
-    let b = passed (with_range_fault (count_in n.height LEAST_SIDE MOST_SIDE HEIGHT_PLACE)) _ s a.2 in
-    let c = passed (with_range_fault (count_in n.far (pos 0) MOST_FAR FAR_PLACE)) _ s b.2 in
+    let a = passed (with_range_fault (count_in n.width LEAST_SIDE MOST_SIDE width_place)) _ s e in
+    let b = passed (with_range_fault (count_in n.height LEAST_SIDE MOST_SIDE height_place)) _ s a.2 in
+    let c = passed (with_range_fault (count_in n.far (pos 0) MOST_FAR far_place)) _ s b.2 in
     let q : s ≡ (a.0, b.0, c.0) = cc c.2 in
     subst⁻¹ Small q (count_most n.width _ _ _ a.0 a.1, count_most n.height _ _ _ b.0 b.1, count_most n.far _ _ _ c.0 c.1)
 

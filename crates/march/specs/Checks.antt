@@ -10,11 +10,33 @@ use Rattle.lattice.specs.Rows.{Way, way, row_answer}
 use Rattle.refusal.specs.declared.range.OutOfRange.{OutOfRange}
 use Rattle.refusal.specs.Checks.{and_then}
 use Rattle.refusal.specs.Ranges.{in_range, count_in}
-use Rattle.march.specs.declared.view.TheConstants.{LEAST_SIDE, MOST_SIDE, MOST_FAR, ORIGIN_PLACE, RAY_PLACE, ACROSS_PLACE, DOWN_PLACE, WIDTH_PLACE, HEIGHT_PLACE, FAR_PLACE}
+use Rattle.march.specs.declared.view.TheConstants.{LEAST_SIDE, MOST_SIDE, MOST_FAR}
 use Rattle.march.specs.declared.view.ViewNumbers.{ViewNumbers}
 use Rattle.march.specs.declared.view.View.{View}
 use Rattle.march.specs.declared.fault.ViewFault.{ViewFault}
 use Rattle.march.specs.declared.fault.ViewFault.TheVariants.{Range, Row}
+
+-- the places of a view's numbers, which are those of a job; the origin's other parts come after its first
+abbrev pub origin_place : ℕ
+origin_place = 1
+
+abbrev pub ray_place : ℕ
+ray_place = 4
+
+abbrev pub across_place : ℕ
+across_place = 5
+
+abbrev pub down_place : ℕ
+down_place = 6
+
+abbrev pub width_place : ℕ
+width_place = 7
+
+abbrev pub height_place : ℕ
+height_place = 8
+
+abbrev pub far_place : ℕ
+far_place = 9
 
 -- three directions by their parts
 abbrev pub three_ways : Direction × Direction × Direction → Way × Way × Way
@@ -70,23 +92,23 @@ coordinate_answer n place = with_range_fault (in_range n LEAST_COORDINATE MOST_C
 
 unfoldable pub origin_answer : ViewNumbers → Result Point ViewFault
 origin_answer n =
-    and_then (coordinate_answer n.origin.x ORIGIN_PLACE) (λ x.
-    and_then (coordinate_answer n.origin.y (ORIGIN_PLACE + 1)) (λ y.
-    and_then (coordinate_answer n.origin.z (ORIGIN_PLACE + 2)) (λ z.
+    and_then (coordinate_answer n.origin.x origin_place) (λ x.
+    and_then (coordinate_answer n.origin.y (origin_place + 1)) (λ y.
+    and_then (coordinate_answer n.origin.z (origin_place + 2)) (λ z.
     Ok (record { x = x; y = y; z = z }))))
 
 unfoldable pub ways_answer : ViewNumbers → Result (Way × Way × Way) ViewFault
 ways_answer n =
-    and_then (with_row_fault (row_answer n.ray RAY_PLACE)) (λ ray.
-    and_then (with_row_fault (row_answer n.across ACROSS_PLACE)) (λ across.
-    and_then (with_row_fault (row_answer n.down DOWN_PLACE)) (λ down.
+    and_then (with_row_fault (row_answer n.ray ray_place)) (λ ray.
+    and_then (with_row_fault (row_answer n.across across_place)) (λ across.
+    and_then (with_row_fault (row_answer n.down down_place)) (λ down.
     Ok (ray, across, down))))
 
 unfoldable pub sizes_answer : ViewNumbers → Result (ℕ × ℕ × ℕ) ViewFault
 sizes_answer n =
-    and_then (with_range_fault (count_in n.width LEAST_SIDE MOST_SIDE WIDTH_PLACE)) (λ width.
-    and_then (with_range_fault (count_in n.height LEAST_SIDE MOST_SIDE HEIGHT_PLACE)) (λ height.
-    and_then (with_range_fault (count_in n.far (pos 0) MOST_FAR FAR_PLACE)) (λ far.
+    and_then (with_range_fault (count_in n.width LEAST_SIDE MOST_SIDE width_place)) (λ width.
+    and_then (with_range_fault (count_in n.height LEAST_SIDE MOST_SIDE height_place)) (λ height.
+    and_then (with_range_fault (count_in n.far (pos 0) MOST_FAR far_place)) (λ far.
     Ok (width, height, far))))
 
 abbrev pub view_answer : ViewNumbers → Result PlainView ViewFault

@@ -1,5 +1,5 @@
 -- A log, worked out: two pixels over a small pile, with a call of each kind, refused and not.
-use Rattle.std.specs.Prelude.{◌≡◌, ◌-◌, false, List, [], ◌∷◌, ℤ, pos, negsuc}
+use Rattle.std.specs.Prelude.{◌≡◌, ◌-◌, false, List, [], ◌∷◌, pos, negsuc}
 use Rattle.std.proofs.Common.{lit≤}
 use Rattle.lattice.specs.Space.{point_of}
 use Rattle.solid.specs.Body.{Body}

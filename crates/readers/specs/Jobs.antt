@@ -11,6 +11,7 @@ use Rattle.words.specs.declared.fault.WordFault.{WordFault}
 use Rattle.words.specs.declared.kind.Kind.TheVariants as kind
 use Rattle.words.specs.Kinds.{kind_number}
 use Rattle.words.specs.Reading.{bare_at, number_in, row_at, placement_at, offset_at}
+use Rattle.march.specs.Checks.{origin_place, ray_place, width_place}
 use Rattle.readers.specs.declared.job.Job.{Job}
 use Rattle.readers.specs.declared.fault.TheConstants.{CLIP_PLACE}
 use Rattle.readers.specs.declared.fault.JobFault.{JobFault}
@@ -39,17 +40,8 @@ numbers_in = result_map_both job_numbers (λ e. e)
 abbrev pub in_job : {A : Type 0} → Result A WordFault → Result A JobFault
 in_job = result_map_both (λ x. x) Word
 
--- Where its numbers stand. The start word is at place 0; the view is an origin, three rows and three sizes; the clip box's
--- lower corner is at CLIP_PLACE.
-abbrev pub origin_place : ℕ
-origin_place = 1
-
-abbrev pub rows_place : ℕ
-rows_place = 4
-
-abbrev pub sizes_place : ℕ
-sizes_place = 7
-
+-- Where its numbers stand. The start word is at place 0; a view's numbers have their own places; the clip box's lower corner
+-- is at CLIP_PLACE.
 abbrev pub guard_place : ℕ
 guard_place = 10
 
@@ -78,8 +70,8 @@ sizes_at bs k =
 unfoldable pub view_at : List ℕ → Result ViewNumbers WordFault
 view_at bs =
     and_then (placement_at bs origin_place) (λ o.
-    and_then (rows_at bs rows_place) (λ r.
-    and_then (sizes_at bs sizes_place) (λ s.
+    and_then (rows_at bs ray_place) (λ r.
+    and_then (sizes_at bs width_place) (λ s.
     Ok (record { origin = o; ray = r.0; across = r.1; down = r.2; width = s.0; height = s.1; far = s.2 }))))
 
 -- the numbers of the pile: the guard, the surface's shift, the clip box's corners

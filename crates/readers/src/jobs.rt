@@ -2,7 +2,8 @@
 ghost use Rattle.std.specs.Prelude.{◌≡◌, OnErr, OnOk};
 ghost use Rattle.lattice.specs.Space.{ordered};
 ghost use Rattle.words.specs.Cursor.{text, place, bytes_left, Moved, Begun};
-ghost use Rattle.readers.specs.Jobs.{origin_place, guard_place, rows_at, sizes_at, view_at, pile_at, job_of, numbers_in};
+ghost use Rattle.march.specs.Checks.{origin_place};
+ghost use Rattle.readers.specs.Jobs.{guard_place, rows_at, sizes_at, view_at, pile_at, job_of, numbers_in};
 ghost use Rattle.readers.specs.declared.job.TheConstants.{JOB_WORDS};
 ghost use Rattle.readers.specs.JobsBack.{JobsReadBack};
 

@@ -1,5 +1,5 @@
 -- What an input says: job, scene and surface, joined; and the pile that it asks for.
-use Rattle.std.specs.Prelude.{ℕ, zero, suc, ◌+◌, ◌*◌, Bool, ◌&&◌, ◌||◌, List, length, drop, ℤ, Ok, Result, ◌==◌, unsigned_abs}
+use Rattle.std.specs.Prelude.{ℕ, zero, suc, ◌+◌, ◌*◌, Bool, ◌&&◌, ◌||◌, List, length, drop, ℤ, Ok, Result, ◌==◌}
 use Rattle.std.specs.Result.{result_map_both}
 use Rattle.lattice.specs.Space.{back}
 use Rattle.lattice.specs.declared.Point.{Point}
@@ -14,7 +14,6 @@ use Rattle.readers.specs.Jobs.{JobNumbers, job_of}
 use Rattle.readers.specs.Surfaces.{surface_of}
 use Rattle.readers.specs.Scenes.{scene_of}
 use Rattle.readers.specs.declared.job.TheConstants.{JOB_WORDS}
-use Rattle.render.specs.declared.buffers.TheConstants.{LONGEST_STRIDE}
 use Rattle.render.specs.declared.fault.InputFault.{InputFault}
 use Rattle.render.specs.declared.fault.InputFault.TheVariants.{Job, Scene, Surface, Left, Inexact, Shallow}
 
@@ -30,9 +29,9 @@ abbrev pub guarded_scene : ℕ → Body → Body
 guarded_scene zero s = s
 guarded_scene (suc g) s = thicken (suc g) s
 
--- a cap over meet of the clip box with unite of the shifted surface and the scene
+-- a cap of 64 over meet of the clip box with unite of the shifted surface and the scene
 abbrev pub job_pile : JobNumbers → (sheet scene : Body) → Body
-job_pile j sheet scene = cap (unsigned_abs LONGEST_STRIDE) (meet (block j.lo j.hi) (unite (shift j.shift sheet) scene))
+job_pile j sheet scene = cap 64 (meet (block j.lo j.hi) (unite (shift j.shift sheet) scene))
 
 abbrev pub pile_of : Model → Body
 pile_of m = job_pile m.job (surface m.width m.depth m.heights) (guarded_scene m.job.guard m.scene)

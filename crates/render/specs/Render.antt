@@ -1,6 +1,6 @@
 -- What the call does: from input bytes, records and output bytes to its answer, the records and the bytes that it
 -- leaves.
-use Rattle.std.specs.Prelude.{ℕ, zero, suc, ◌+◌, ◌*◌, ◌/◌, ◌%◌, min, if◌then◌else◌, List, [], ◌∷◌, ◌++◌, length, drop, Ok, Err, Result, nat_lt, unsigned_abs}
+use Rattle.std.specs.Prelude.{ℕ, zero, suc, ◌+◌, ◌*◌, ◌/◌, ◌%◌, min, if◌then◌else◌, List, [], ◌∷◌, ◌++◌, length, drop, Ok, Err, Result, nat_lt, unsigned_abs, ◌-◌, ◌^◌}
 use Rattle.lattice.specs.Rows.{triple}
 use Rattle.solid.specs.Body.{Body}
 use Rattle.march.specs.declared.pixel.Pixel.{Pixel}
@@ -12,7 +12,6 @@ use Rattle.words.specs.Words.{four_bytes, refusal_word}
 use Rattle.plate_log.specs.Image.{image_of, image_size}
 use Rattle.march.specs.declared.view.TheConstants.{MOST_PIXELS}
 use Rattle.render.specs.declared.TheConstants.{MOST_BYTES}
-use Rattle.render.specs.declared.fault.TheConstants.{MOST_PLACE}
 use Rattle.render.specs.declared.fault.InputFault.{InputFault}
 use Rattle.render.specs.declared.fault.RenderFault.{RenderFault}
 use Rattle.render.specs.declared.fault.RenderFault.TheVariants.{Records, Room}
@@ -21,7 +20,7 @@ use Rattle.render.specs.Models.{Model, pile_of, input_model}
 
 -- the one word of a refused input; a place has 16 bits there, and one past them would be written as the greatest
 abbrev pub refusal_of : InputFault → ℕ
-refusal_of e = refusal_word (input_code e).0 (input_code e).1 (min (input_code e).2 MOST_PLACE)
+refusal_of e = refusal_word (input_code e).0 (input_code e).1 (min (input_code e).2 (2 ^ 16 - 1))
 
 -- the view of numbers that are in their ranges
 abbrev pub plain_of : ViewNumbers → PlainView
