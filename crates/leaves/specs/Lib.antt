@@ -2,3 +2,4 @@ pub mod Codes
 pub mod Ball
 pub mod Made
 pub mod Surface
+pub mod Sheet

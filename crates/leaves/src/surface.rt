@@ -133,10 +133,15 @@ pub struct Surface<'a> {
 }
 
 impl<'a> Surface<'a> {
-    /// The surface of a sheet.
+    ghost use Rattle.leaves.specs.Sheet.{sheet_of, top_of};
+
+    /// The surface of a sheet. Its H is the greatest height.
     pub fn new(sheet: Sheet<'a>) -> Surface<'a>
-        ensures { ⟦<Surface<'a> as Solid>⟧.body result
+        ensures body { ⟦<Surface<'a> as Solid>⟧.body result
             ≡ surface_body sheet.entry.size sheet.entry.heights.now }
+        ensures sheet { sheet_of result ≡ sheet.entry }
+        ensures top { top_of result
+            ≡ greatest (all_columns sheet.entry.size) sheet.entry.heights.now }
     {
         let top = sheet.greatest();
         Surface { sheet, top }

@@ -4,7 +4,6 @@ use Rattle.words.specs.Codes.{word_code, place_as_u32}
 use Rattle.scene.specs.Codes.{draft_code}
 use Rattle.leaves.specs.declared.fault.SurfaceFault.{SurfaceFault}
 use Rattle.leaves.specs.declared.fault.SurfaceFault.TheVariants.{Size as NoSheet, Buffer as FewHeights}
-use Rattle.readers.specs.declared.fault.TheConstants.{CLIP_PLACE}
 use Rattle.readers.specs.declared.fault.JobFault.{JobFault}
 use Rattle.readers.specs.declared.fault.JobFault.TheVariants.{Word, Corners}
 use Rattle.readers.specs.declared.fault.SceneFault.{SceneFault}
@@ -14,7 +13,7 @@ use Rattle.readers.specs.declared.fault.SurfaceReadFault.TheVariants.{Word as Su
 
 abbrev pub job_code : JobFault → ℕ × ℕ
 job_code (Word e) = word_code e
-job_code Corners = (6, CLIP_PLACE)
+job_code Corners = (6, 14)
 
 abbrev pub scene_code : SceneFault → ℕ × ℕ
 scene_code (SceneWord e) = word_code e

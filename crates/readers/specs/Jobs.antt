@@ -13,7 +13,6 @@ use Rattle.words.specs.Kinds.{kind_number}
 use Rattle.words.specs.Reading.{bare_at, number_in, row_at, placement_at, offset_at}
 use Rattle.march.specs.Checks.{origin_place, ray_place, width_place}
 use Rattle.readers.specs.declared.job.Job.{Job}
-use Rattle.readers.specs.declared.fault.TheConstants.{CLIP_PLACE}
 use Rattle.readers.specs.declared.fault.JobFault.{JobFault}
 use Rattle.readers.specs.declared.fault.JobFault.TheVariants.{Word, Corners}
 
@@ -40,13 +39,15 @@ numbers_in = result_map_both job_numbers (λ e. e)
 abbrev pub in_job : {A : Type 0} → Result A WordFault → Result A JobFault
 in_job = result_map_both (λ x. x) Word
 
--- Where its numbers stand. The start word is at place 0; a view's numbers have their own places; the clip box's lower corner
--- is at CLIP_PLACE.
+-- Where its numbers stand. The start word is at place 0; a view's numbers have their own places.
 abbrev pub guard_place : ℕ
 guard_place = 10
 
 abbrev pub shift_place : ℕ
 shift_place = 11
+
+abbrev pub lower_corner_place : ℕ
+lower_corner_place = 14
 
 abbrev pub upper_corner_place : ℕ
 upper_corner_place = 17
@@ -79,7 +80,7 @@ unfoldable pub pile_at : List ℕ → Result (ℤ × Point × Point × Point) Wo
 pile_at bs =
     and_then (number_in bs guard_place LEAST_THICKNESS MOST_THICKNESS) (λ guard.
     and_then (offset_at bs shift_place) (λ shift.
-    and_then (placement_at bs CLIP_PLACE) (λ lo.
+    and_then (placement_at bs lower_corner_place) (λ lo.
     and_then (placement_at bs upper_corner_place) (λ hi.
     Ok (guard, shift, lo, hi)))))
 

@@ -46,7 +46,7 @@ returns-then-job-eq0 c =
     let s = scene_body c.args.scene.now in
     let drawn = of_model j s c.args.sheet.size c.args.sheet.heights.now _ s c.pile_up.result _ _ _ _
     (scene_lawful c.args.scene.now) (sym c.may_be_guarded.ensures ∙ c.if-not-may_be_guarded.false)
-    c.args.sheet.a_height_each c.new-surface.ensures (unguarded j.guard s c.if-job-eq0.true)
+    c.args.sheet.a_height_each c.new-surface.ensures.body (unguarded j.guard s c.if-job-eq0.true)
     c.pile_up.ensures.value c.pile_up.ensures.shows in
     record { value = drawn.0; shows = drawn.1; lender = c.pile_up.ensures.lender }
 
@@ -62,6 +62,6 @@ returns c =
     let s = scene_body c.args.scene.now in
     let drawn = of_model j s c.args.sheet.size c.args.sheet.heights.now _ _ c.pile_up-2.result _ _ _ _
     (scene_lawful c.args.scene.now) (sym c.may_be_guarded.ensures ∙ c.if-not-may_be_guarded.false)
-    c.args.sheet.a_height_each c.new-surface.ensures (c.thickened-thick.ensures ∙ on_guard j.guard s c.if-job-eq0.false)
+    c.args.sheet.a_height_each c.new-surface.ensures.body (c.thickened-thick.ensures ∙ on_guard j.guard s c.if-job-eq0.false)
     c.pile_up-2.ensures.value c.pile_up-2.ensures.shows in
     record { value = drawn.0; shows = drawn.1; lender = c.pile_up-2.ensures.lender }
