@@ -14,7 +14,7 @@ use super::fault::{LeafFault, check_point};
 use super::leaf_point::{LEAF_REACH, LeafPoint};
 use lattice::Point;
 use refusal::count_in;
-use solid::{Exact, MOST_CLEARANCE, QuestionFault, Solid};
+use solid::{Exact, QuestionFault, Solid};
 
 /// The points whose squared offsets from the centre add to at most the radius squared.
 #[derive(Clone, Copy)]
@@ -133,7 +133,8 @@ impl Solid for Ball {
     }
 
     fn clearance(&self, p: Point) -> Result<u32, QuestionFault> {
-        self.clearance_up_to(p, MOST_CLEARANCE)
+        let asked = LeafPoint::new(p)?;
+        Ok(self.smallest(self.offsets(asked)))
     }
 
     fn clearance_up_to(&self, p: Point, most: u32) -> Result<u32, QuestionFault> {

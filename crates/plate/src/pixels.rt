@@ -21,7 +21,10 @@ pub(crate) fn count_marching(pixels: &[Pixel]) -> u32
     requires { length pixels.now ≤ MOST_PIXELS }
     ensures { result ≡ count_marching pixels.now }
 {
-    pixels.iter().filter(|pixel| is_marching(**pixel)).count() as u32
+    pixels
+        .iter()
+        .map(|pixel| u32::from(is_marching(*pixel)))
+        .sum()
 }
 
 /// Makes the pixels those of new rays.

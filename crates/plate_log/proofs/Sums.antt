@@ -1,5 +1,5 @@
 -- Probes, budgets and the number of marching pixels.
-use Rattle.std.proofs.Common.{◌≡◌, ℕ, zero, suc, ◌+◌, ◌-◌, ◌*◌, ◌<◌, ◌≤◌, true, cond, ◌⊎◌, List, [], ◌∷◌, length, filter, get_or, set, replicate, refl, ap, inl, inr, suc-mul, arith, length-set}
+use Rattle.std.proofs.Common.{◌≡◌, ℕ, zero, suc, ◌+◌, ◌-◌, ◌*◌, ◌<◌, ◌≤◌, true, cond, ◌⊎◌, List, [], ◌∷◌, length, get_or, set, replicate, refl, ap, inl, inr, suc-mul, arith, length-set}
 use Rattle.march.specs.declared.pixel.Pixel.{Pixel}
 use Rattle.march.specs.declared.pixel.Pixel.TheVariants.{Marching, Hit, Miss}
 use Rattle.march.specs.declared.view.View.{View}
@@ -12,13 +12,6 @@ use Rattle.plate_log.proofs.Lift.{Did, did, swept_all, touched_one, nothing, Qui
 
 abbrev pub one_if : Pixel → ℕ
 one_if p = cond (marches p) 1 0
-
--- the marching pixels, counted as they are filtered
-pub marching_filter : (ps : List Pixel) → length (filter marches ps) ≡ count_marching ps
-marching_filter [] = refl
-marching_filter (Marching t n ∷ ps) = omega (arith, marching_filter ps)
-marching_filter (Hit d n ∷ ps) = omega (arith, marching_filter ps)
-marching_filter (Miss n ∷ ps) = omega (arith, marching_filter ps)
 
 -- one pixel
 probes_stepped : (far t n c : ℕ) → probes (after_probe far t n c) ≡ n + 1

@@ -141,34 +141,51 @@ impl Table {
         if let Node::Leaf(leaf) = self.last_of(end) {
             return leaf.clear_up_to(p, most);
         }
-        self.ask(end, p.at, most)
+        self.ask(end, &p.at, most)
     }
 
     /// The clearance of the body that stands last once `end` nodes are laid down, or `most` where
     /// that is smaller.
-    pub(crate) fn ask(&self, end: usize, p: Point, most: u32) -> u32
+    // The point is lent: with a copy of it at each node a chain of shifts takes half as long again.
+    #[cycle(ask)]
+    pub(crate) fn ask(&self, end: usize, p: &Point, most: u32) -> u32
         requires laid { end ≤ table_count self.now }
         requires stands { IsTrue (has_one (bodies_at self.now end)) }
-        requires near { In (body_at self.now end).reach p }
-        ensures { result ≡ min most ((body_at self.now end).clear p) }
+        requires near { In (body_at self.now end).reach p.now }
+        ensures { result ≡ min most ((body_at self.now end).clear p.now) }
     {
         let last = end - 1;
         match self.last_of(end) {
-            Node::Leaf(leaf) => leaf.clear_up_to(LeafPoint { at: p }, most),
-            Node::Joined(join) => {
-                let right = self.ask(last, p, most);
-                let middle = self.start_of(last);
-                match join {
-                    Join::Unite => self.ask(middle, p, right),
-                    Join::Meet if right == most => most,
-                    Join::Meet => right.max(self.ask(middle, p, most)),
-                }
-            }
-            Node::Shift(by) => self.ask(last, p.wrapping_sub(*by), most),
+            Node::Leaf(leaf) => leaf.clear_up_to(LeafPoint { at: *p }, most),
+            Node::Joined(join) => self.ask_joined(*join, end, p, most),
+            Node::Shift(by) => self.ask(last, &p.wrapping_sub(*by), most),
             Node::Thicken(by) => {
                 let clear = self.ask(last, p, most.saturating_add(*by));
                 clear.saturating_sub(*by)
             }
+        }
+    }
+
+    /// As `ask`, where the last of the nodes joins two bodies.
+    // Out of line, so that `ask` has little to keep where it asks one body alone.
+    #[cycle(ask)]
+    #[inline(never)]
+    fn ask_joined(&self, join: Join, end: usize, p: &Point, most: u32) -> u32
+        requires laid { end ≤ table_count self.now }
+        requires stands { IsTrue (has_one (bodies_at self.now end)) }
+        requires near { In (body_at self.now end).reach p.now }
+        requires made { bodies_at self.now end ≡
+            with_node (Joined join) (bodies_at self.now (end - 1)) }
+        requires fit { IsTrue (can_take (Joined join) (bodies_at self.now (end - 1))) }
+        ensures { result ≡ min most ((body_at self.now end).clear p.now) }
+    {
+        let last = end - 1;
+        let right = self.ask(last, p, most);
+        let middle = self.start_of(last);
+        match join {
+            Join::Unite => self.ask(middle, p, right),
+            Join::Meet if right == most => most,
+            Join::Meet => right.max(self.ask(middle, p, most)),
         }
     }
 }
