@@ -1,5 +1,5 @@
 -- What a body answers within its reach, and beyond it.
-use Rattle.std.proofs.Common.{◌≡◌, ℕ, min, true, Ok, Err, ap, ◌∙◌, arith}
+use Rattle.std.proofs.Common.{◌≡◌, ℕ, min, true, false, Ok, Err, ap, ◌∙◌, arith}
 use Rattle.std.proofs.lemmas.Bool.{le-leb, leb-true, cond-true, cond-false, cond_both, and_parts, and_from}
 use Rattle.lattice.specs.Space.{within, In}
 use Rattle.lattice.specs.declared.Point.{Point}
@@ -14,6 +14,12 @@ in_within r p i = and_from _ _ (le-leb _ _ i.0) (and_from _ _ (le-leb _ _ i.1) (
 
 pub within_in : (r : ℕ) (p : Point) → within r p ≡ true → In r p
 within_in r p e = let s = and_parts _ _ e in let t = and_parts _ _ s.1 in (leb-true _ _ s.0, leb-true _ _ t.0, leb-true _ _ t.1)
+
+pub answer_in : (b : Body) (p : Point) → In b.reach p → answer b p ≡ Ok (b.clear p)
+answer_in b p i = cond-true _ _ _ (in_within b.reach p i)
+
+pub answer_beyond : (b : Body) (p : Point) → within b.reach p ≡ false → answer b p ≡ Err BeyondReach
+answer_beyond b p e = cond-false _ _ _ e
 
 pub membership_in : (b : Body) (p : Point) → In b.reach p → membership b p ≡ Ok (b.member p)
 membership_in b p i = cond-true _ _ _ (in_within b.reach p i)
